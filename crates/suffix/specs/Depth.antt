@@ -1,0 +1,55 @@
+-- How deep the rules of a table go along a host's last labels: what one pass needs to know, beside the sizes, of deeper rules.
+use mathlib.Core.Path.{_≡_}
+use mathlib.Core.List.{List, [], _∷_}
+use mathlib.Core.Bool.{Bool, true, false}
+use mathlib.Core.Option.{Option, none, some}
+use Prim.Native.Nat.{ℕ, suc, max}
+use lib.ListN.{length}
+use Rattle.ascii.specs.Ascii.{Bytes, if_then_else_, isNone, filterBy, lastOf}
+use Rattle.suffix.specs.Host.{labels}
+use Rattle.suffix.specs.Suffix.{Rule, content, matches, mostLabels, privateLabel}
+use Rattle.suffix.specs.Pass.{readLine, LabelAt}
+use Rattle.suffix.specs.Deeper.{goesDeeper, isDeeper}
+use Rattle.suffix.specs.declared.Depths.{Depths}
+use Rattle.suffix.specs.declared.Depths.the-variants.{Wrong, Found}
+use Rattle.suffix.specs.declared.Labelled.{Labelled}
+
+-- the most last labels of the host that the rule goes deeper than
+unfoldable pub depthOf : List Bytes → Rule → ℕ
+depthOf [] r = 0
+depthOf (l ∷ ls) r = if goesDeeper (l ∷ ls) r then suc (length ls) else depthOf ls r
+
+unfoldable pub deepest : List Bytes → List Rule → ℕ
+deepest host [] = 0
+deepest host (r ∷ rules) = max (depthOf host r) (deepest host rules)
+
+unfoldable pub lineDepth : List Bytes → Option (List Rule) → ℕ
+lineDepth host none = 0
+lineDepth host (some rules) = deepest host rules
+
+unfoldable pub linesDepth : List Bytes → List Bytes → ℕ
+linesDepth host [] = 0
+linesDepth host (l ∷ ls) = max (lineDepth host (readLine (content l))) (linesDepth host ls)
+
+-- the two sizes, and the depth
+unfoldable pub depthsOf : List Bytes → Option (List Rule) → Depths
+depthsOf host none = Wrong
+depthsOf host (some rules) =
+    Found (mostLabels (filterBy (λ r. r .exception) (filterBy (matches host) rules))) (mostLabels (filterBy (matches host) rules)) (deepest host rules)
+
+-- the line is none that makes the table bad
+pub record Good (line : Bytes) : Type 0 where
+  pub is : isNone (readLine line) ≡ false
+
+-- tail has the host's last label
+pub record Tail (host tail : Bytes) : Type 0 where
+  pub is : labels tail ≡ lastOf 1 (labels host)
+
+-- a rule goes deeper than the label that there is
+unfoldable pub deeperThan : Bytes → Option Bytes → Bool
+deeperThan table none = false
+deeperThan table (some label) = isDeeper table label
+
+pub record LabelFound (table host : Bytes) (r : Labelled) : Type 0 where
+  pub place : LabelAt table host (r .start)
+  pub deeper : r .deeper ≡ deeperThan table (privateLabel table host)
