@@ -8,12 +8,12 @@ use native.Mathlib.Omega.{arith}
 use lib.ListN.{length, take, drop, length-drop}
 use lib.Seq.{drop-length, take-all}
 use lib.Dec.{eqb, leb, ltb}
-use borrow.Author.Tests.{eq-eqb, ne-eqb, lt-leb, le-leb, lt-ltb, le-ltb, leb-true}
+use borrow.Author.Tests.{eq-eqb, ne-eqb, lt-leb, le-leb, lt-ltb, le-ltb, leb-true, ltb-true, ltb-false, not-true}
 use Rattle.ascii.specs.Ascii.{Bytes, if_then_else_, _>>=_, all, any, filterBy, isEmpty, splitAt, lastOf, joinWith, beginsWith, same, text}
 use Rattle.suffix.specs.Host.{labels, isHost, isAddress}
 use Rattle.suffix.specs.Place.{Stands}
-use Rattle.suffix.specs.Suffix.{Rule, normal, exceptional, content, isSkipped, readRule, readLines, readTable, matches, mostLabels, suffixSize, publicSuffix, privateLabels, labelUnder, privateLabel}
-use Rattle.suffix.specs.Pass.{sizes, bestOf, sizeOf, orEmpty, LabelAt}
+use Rattle.suffix.specs.Suffix.{Rule, normal, exceptional, content, isSkipped, readRule, readLines, readTable, matches, longer, mostLabels, prevailing, suffixSize, publicSuffix, privateLabels, labelUnder, privateLabel}
+use Rattle.suffix.specs.Pass.{maxLabels, sizes, bestOf, sizeOf, orEmpty, LabelAt}
 use Rattle.suffix.specs.declared.Best.{Best}
 use Rattle.suffix.specs.declared.Best.the-variants.{Bad, Sizes}
 use Rattle.suffix.proofs.Ends.{labels-some}
@@ -81,26 +81,86 @@ filter-named p (r ∷ rs) a = go (p r) (and-eq-true-iff (named r) (all named rs)
     go true a ih = and-eq-true-iff (named r) (all named (filterBy p rs)) .1 (a .0, ih (a .1))
     go false a ih = ih (a .1)
 
-any-most : (rs : List Rule) → all named rs ≡ true → any (λ r. r .exception) rs ≡ ltb 0 (mostLabels (filterBy (λ r. r .exception) rs))
-unfolding all any filterBy mostLabels
-any-most [] a = refl
-any-most (r ∷ rs) a = go (r .exception) (and-eq-true-iff (named r) (all named rs) .0 a) (any-most rs)
+filter-passes : (p : Rule → Bool) (rs : List Rule) → all p (filterBy p rs) ≡ true
+unfolding all filterBy
+filter-passes p [] = refl
+filter-passes p (r ∷ rs) = go (p r) refl (filter-passes p rs)
   where
-    go : (u : Bool) → (named r ≡ true) × (all named rs ≡ true) → (all named rs ≡ true → any (λ r. r .exception) rs ≡ ltb 0 (mostLabels (filterBy (λ r. r .exception) rs)))
-        → (u || any (λ r. r .exception) rs) ≡ ltb 0 (mostLabels (if u then r ∷ filterBy (λ r. r .exception) rs else filterBy (λ r. r .exception) rs))
-    go true a ih = sym (lt-ltb 0 (max (length (r .names)) (mostLabels (filterBy (λ r. r .exception) rs))) (omega (arith, leb-true 1 (length (r .names)) (a .0))))
-    go false a ih = ih (a .1)
+    go : (u : Bool) → p r ≡ u → all p (filterBy p rs) ≡ true → all p (if u then r ∷ filterBy p rs else filterBy p rs) ≡ true
+    go true e ih = rw (e, ih)
+    go false e ih = ih
 
-empty-most : (rs : List Rule) → all named rs ≡ true → isEmpty rs ≡ eqb (mostLabels rs) 0
-unfolding all mostLabels
-empty-most [] a = refl
-empty-most (r ∷ rs) a =
-    let b = and-eq-true-iff (named r) (all named rs) .0 a in
-    sym (ne-eqb (max (length (r .names)) (mostLabels rs)) 0 (λ z. omega (arith, leb-true 1 (length (r .names)) (b .0))))
+filter-empty : (p : Rule → Bool) (rs : List Rule) → filterBy p rs ≡ [] → all (λ r. not (p r)) rs ≡ true
+unfolding all filterBy
+filter-empty p [] e = refl
+filter-empty p (r ∷ rs) e = go (p r) refl e (filter-empty p rs)
+  where
+    go : (u : Bool) → p r ≡ u → (if u then r ∷ filterBy p rs else filterBy p rs) ≡ [] → (filterBy p rs ≡ [] → all (λ r. not (p r)) rs ≡ true)
+        → (not (p r) && all (λ r. not (p r)) rs) ≡ true
+    go true f e ih = let z : _≡_ {A = ℕ} 0 1 = cc in absurd (omega arith)
+    go false f e ih = rw (f, ih e)
 
-size-is : (rs : List Rule) → all named rs ≡ true → suffixSize rs ≡ sizeOf (mostLabels (filterBy (λ r. r .exception) rs)) (mostLabels rs)
-unfolding suffixSize sizeOf
-size-is rs a = rw (any-most rs a, empty-most rs a)
+-- the rule with most labels: its number of labels, and what holds of every rule holds of it
+pub record Most (rs : List Rule) : Type 0 where
+  pub rule : Rule
+  pub is : mostLabels rs ≡ some rule
+  pub count : length (rule .names) ≡ maxLabels rs
+  pub passes : (p : Rule → Bool) → all p rs ≡ true → p rule ≡ true
+
+longest-none : mostLabels [] ≡ none
+unfolding mostLabels
+longest-none = refl
+
+max-none : maxLabels [] ≡ 0
+unfolding maxLabels
+max-none = refl
+
+longest-one : (r : Rule) → mostLabels (r ∷ []) ≡ some r
+unfolding mostLabels
+longest-one r = refl
+
+longest-more : (r : Rule) (rs : List Rule) → mostLabels (r ∷ rs) ≡ some (longer r (mostLabels rs))
+unfolding mostLabels
+longest-more r rs = refl
+
+most : (r : Rule) (rs : List Rule) → Most (r ∷ rs)
+unfolding maxLabels all
+most r [] = record { rule = r; is = longest-one r; count = omega arith; passes = λ p a. and-eq-true-iff (p r) true .0 a .0 }
+most r (s ∷ rs) = go (most s rs) (ltb (length (r .names)) (length (most s rs .rule .names))) refl
+  where
+    go : (M : Most (s ∷ rs)) (u : Bool) → ltb (length (r .names)) (length (M .rule .names)) ≡ u → Most (r ∷ s ∷ rs)
+    go M true e = record {
+      rule = M .rule;
+      is = rw (longest-more r (s ∷ rs), M .is, e);
+      count = omega (arith, M .count, ltb-true (length (r .names)) (length (M .rule .names)) e);
+      passes = λ p a. M .passes p (and-eq-true-iff (p r) (all p (s ∷ rs)) .0 a .1);
+    }
+    go M false e = record {
+      rule = r;
+      is = rw (longest-more r (s ∷ rs), M .is, e);
+      count = omega (arith, M .count, ltb-false (length (r .names)) (length (M .rule .names)) e);
+      passes = λ p a. and-eq-true-iff (p r) (all p (s ∷ rs)) .0 a .0;
+    }
+
+-- a rule has a label, so has the one with most
+some-labels : (r : Rule) (rs : List Rule) → all named (r ∷ rs) ≡ true → 1 ≤ maxLabels (r ∷ rs)
+unfolding all maxLabels
+some-labels r rs a = omega (arith, leb-true 1 (length (r .names)) (and-eq-true-iff (named r) (all named rs) .0 a .0))
+
+size-is : (rs : List Rule) → all named rs ≡ true → suffixSize (prevailing rs) ≡ sizeOf (maxLabels (filterBy (λ r. r .exception) rs)) (maxLabels rs)
+size-is rs a = go (filterBy (λ r. r .exception) rs) refl (filter-named (λ r. r .exception) rs a) rs refl
+  where
+    go : (es : List Rule) → filterBy (λ r. r .exception) rs ≡ es → all named es ≡ true → (ms : List Rule) → rs ≡ ms
+        → suffixSize (prevailing rs) ≡ sizeOf (maxLabels es) (maxLabels rs)
+    go (e ∷ es) f b ms g = unfold prevailing suffixSize sizeOf in
+        (let M = most e es in
+        let x : M .rule .exception ≡ true = M .passes (λ r. r .exception) (rw f at (filter-passes (λ r. r .exception) rs)) in
+        rw (f, M .is, x, M .count, lt-ltb 0 (maxLabels (e ∷ es)) (some-labels e es b)))
+    go [] f b [] g = unfold prevailing suffixSize sizeOf maxLabels mostLabels in (rw (f, g))
+    go [] f b (r ∷ ms) g = unfold prevailing suffixSize sizeOf in
+        (let M = most r ms in
+        let x : M .rule .exception ≡ false = not-true (M .rule .exception) (M .passes (λ r. not (r .exception)) (rw g at (filter-empty (λ r. r .exception) rs f))) in
+        rw (f, g, longest-none, max-none, M .is, x, M .count, ne-eqb (maxLabels (r ∷ ms)) 0 (λ z. omega (arith, some-labels r ms (rw g at a)))))
 
 pub size-exception : (e m : ℕ) → 0 < e → e - 1 ≡ sizeOf e m
 unfolding sizeOf
@@ -119,7 +179,7 @@ size-most e m h k = rw (le-ltb 0 e h, ne-eqb _ _ k)
 pub record Found (table host : Bytes) (n : ℕ) : Type 0 where
   pub rules : List Rule
   pub read : readTable table ≡ some rules
-  pub size : suffixSize (filterBy (matches (labels host)) rules) ≡ n
+  pub size : suffixSize (prevailing (filterBy (matches (labels host)) rules)) ≡ n
 
 pub found : (table host : Bytes) (e m : ℕ) → Sizes e m ≡ bestOf (labels host) (readTable table) → Found table host (sizeOf e m)
 found table host e m q = go (readTable table) refl (table-named table) q
@@ -128,8 +188,8 @@ found table host e m q = go (readTable table) refl (table-named table) q
     go none t a q = unfold bestOf in (let z : _≡_ {A = ℕ} 0 1 = cc in absurd (omega arith))
     go (some rs) t (have-names a) q = unfold bestOf sizes in
         (let ms = filterBy (matches (labels host)) rs in
-        let x : mostLabels (filterBy (λ r. r .exception) ms) ≡ e = cc in
-        let y : mostLabels ms ≡ m = cc in
+        let x : maxLabels (filterBy (λ r. r .exception) ms) ≡ e = cc in
+        let y : maxLabels ms ≡ m = cc in
         record { rules = rs; read = t; size = size-is ms (filter-named (matches (labels host)) rs a) ∙ ap₂ sizeOf x y })
 
 pub bad-table : (table host : Bytes) → Bad ≡ bestOf (labels host) (readTable table) → readTable table ≡ none

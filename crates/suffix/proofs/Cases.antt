@@ -5,7 +5,7 @@ use mathlib.Core.Bool.{Bool, true, false}
 use mathlib.Core.Option.{Option, none, some}
 use Rattle.ascii.specs.Ascii.{Bytes, all, any, filterBy, takeWhile, lastOf, joinHead, splitAt, prefixed, joinWith, isDigit, isUpper, isLetter, lowerByte, lower, same, sameNoCase, beginsWith, text}
 use Rattle.suffix.specs.Host.{labels, isLabelByte, isShaped, isLabel, isHost, isAddress}
-use Rattle.suffix.specs.Suffix.{isBlank, content, isSkipped, readRule, readLines, readTable, nameMatches, allMatch, matches, mostLabels, suffixSize, publicSuffix, privateLabels, labelUnder, privateLabel}
+use Rattle.suffix.specs.Suffix.{isBlank, content, isSkipped, readRule, readLines, readTable, nameMatches, allMatch, matches, mostLabels, prevailing, suffixSize, publicSuffix, privateLabels, labelUnder, privateLabel}
 
 abbrev rules : Bytes
 rules = text "com\nhosting.example.com\n*.ck\n!www.ck\n"
@@ -24,5 +24,5 @@ pub record LabelCases : Type 0 where
   pub case11 : privateLabel rules (text "192.0.2.1") ≡ none
 
 pub label-cases : LabelCases
-unfolding all any filterBy takeWhile lastOf joinHead splitAt prefixed joinWith isDigit isUpper isLetter lowerByte lower same sameNoCase beginsWith labels isLabelByte isShaped isLabel isHost isBlank content isSkipped readRule readLines readTable nameMatches allMatch matches mostLabels suffixSize publicSuffix isAddress privateLabels labelUnder privateLabel
+unfolding all any filterBy takeWhile lastOf joinHead splitAt prefixed joinWith isDigit isUpper isLetter lowerByte lower same sameNoCase beginsWith labels isLabelByte isShaped isLabel isHost isBlank content isSkipped readRule readLines readTable nameMatches allMatch matches mostLabels prevailing suffixSize publicSuffix isAddress privateLabels labelUnder privateLabel
 label-cases = record { case1 = refl; case2 = refl; case3 = refl; case4 = refl; case5 = refl; case6 = refl; case7 = refl; case8 = refl; case9 = refl; case10 = refl; case11 = refl }

@@ -14,8 +14,8 @@ use Rattle.ascii.specs.Ascii.{Bytes, if_then_else_, _>>=_, isNone, any, filterB
 use Rattle.ascii.proofs.Scan.{scan-part, scan-from, scan-to}
 use Rattle.suffix.specs.Host.{labels, isHost, isAddress}
 use Rattle.suffix.specs.Place.{Stands, endsAtLabel}
-use Rattle.suffix.specs.Suffix.{Rule, normal, exceptional, content, isSkipped, readRule, readLines, readTable, allMatch, matches, mostLabels, privateLabel}
-use Rattle.suffix.specs.Pass.{sizes, bestOf, oneRule, readLine, inLine, inContent, sizeOf, orEmpty, LabelAt}
+use Rattle.suffix.specs.Suffix.{Rule, normal, exceptional, content, isSkipped, readRule, readLines, readTable, allMatch, matches, privateLabel}
+use Rattle.suffix.specs.Pass.{maxLabels, sizes, bestOf, oneRule, readLine, inLine, inContent, sizeOf, orEmpty, LabelAt}
 use Rattle.suffix.specs.Deeper.{goesDeeper, deeperIn, isDeeper}
 use Rattle.suffix.specs.Depth.{depthOf, deepest, lineDepth, linesDepth, depthsOf, Good, Tail, deeperThan, LabelFound}
 use Rattle.suffix.specs.declared.Best.{Best}
@@ -278,8 +278,8 @@ from-best : (host table : Bytes) → length table ≤ 1048576 → (o : Option (L
 unfolding bestOf sizes depthsOf
 from-best host table l none t u e m d f g = let z : _≡_ {A = ℕ} 0 1 = cc in absurd (omega arith)
 from-best host table l (some rs) t u e m d f g =
-    let x : mostLabels (filterBy (λ r. r .exception) (filterBy (matches (labels host)) rs)) ≡ e = cc in
-    let y : mostLabels (filterBy (matches (labels host)) rs) ≡ m = cc in
+    let x : maxLabels (filterBy (λ r. r .exception) (filterBy (matches (labels host)) rs)) ≡ e = cc in
+    let y : maxLabels (filterBy (matches (labels host)) rs) ≡ m = cc in
     rw (x, y, f, lines-rules (labels host) (splitAt 10 table) rs u)
 
 table-read : (table : Bytes) → length table ≤ 1048576 → readLines (splitAt 10 table) ≡ readTable table
@@ -350,8 +350,8 @@ module _ (table host : Bytes) where
   unfolding bestOf sizes depthsOf
   to-best e m d none f = let z : _≡_ {A = ℕ} 0 1 = cc in absurd (omega arith)
   to-best e m d (some rs) f =
-      let x : e ≡ mostLabels (filterBy (λ r. r .exception) (filterBy (matches (labels host)) rs)) = cc in
-      let y : m ≡ mostLabels (filterBy (matches (labels host)) rs) = cc in
+      let x : e ≡ maxLabels (filterBy (λ r. r .exception) (filterBy (matches (labels host)) rs)) = cc in
+      let y : m ≡ maxLabels (filterBy (matches (labels host)) rs) = cc in
       ap₂ Sizes x y
 
   to-depth : (e m d k : ℕ) (o : Option (List Rule)) → Found e m d ≡ depthsOf (labels host) o → 1 ≤ k → k ≤ length (labels host) → leb k d ≡ deeperIn (lastOf k (labels host)) o

@@ -15,8 +15,8 @@ use Rattle.ascii.specs.Ascii.{Bytes, if_then_else_, _>>=_, all, filterBy, lastO
 use Rattle.ascii.proofs.Split.{split-parts, split-other}
 use Rattle.suffix.specs.Host.{labels, isLabelByte, isShaped, isLabel, isHost}
 use Rattle.suffix.specs.Place.{endsAtLabel}
-use Rattle.suffix.specs.Suffix.{Rule, normal, exceptional, isSkipped, readRule, nameMatches, allMatch, matches, mostLabels}
-use Rattle.suffix.specs.Pass.{sizes, bestOf, oneRule, readLine}
+use Rattle.suffix.specs.Suffix.{Rule, normal, exceptional, isSkipped, readRule, nameMatches, allMatch, matches}
+use Rattle.suffix.specs.Pass.{maxLabels, sizes, bestOf, oneRule, readLine}
 use Rattle.suffix.specs.declared.Best.{Best}
 use Rattle.suffix.specs.declared.Best.the-variants.{Bad, Sizes}
 use Rattle.suffix.proofs.Ends.{same-eq, labels-some, match-labels, wild, wild-few, wild-more}
@@ -27,15 +27,15 @@ max-zero : (n : ℕ) → max n 0 ≡ n
 max-zero n = omega arith
 
 one-normal : (host ns : List Bytes) → matches host (normal ns) ≡ true → Sizes 0 (length ns) ≡ bestOf host (oneRule (some (normal ns)))
-unfolding bestOf sizes oneRule filterBy mostLabels
+unfolding bestOf sizes oneRule filterBy maxLabels
 one-normal host ns e = rw (e, max-zero)
 
 one-exception : (host ns : List Bytes) → matches host (exceptional ns) ≡ true → Sizes (length ns) (length ns) ≡ bestOf host (oneRule (some (exceptional ns)))
-unfolding bestOf sizes oneRule filterBy mostLabels
+unfolding bestOf sizes oneRule filterBy maxLabels
 one-exception host ns e = rw (e, max-zero)
 
 one-none : (host : List Bytes) (r : Rule) → matches host r ≡ false → Sizes 0 0 ≡ bestOf host (oneRule (some r))
-unfolding bestOf sizes oneRule filterBy mostLabels
+unfolding bestOf sizes oneRule filterBy maxLabels
 one-none host r e = rw e
 
 none-bad : (host : List Bytes) → Bad ≡ bestOf host (oneRule none)
@@ -211,7 +211,7 @@ other-read (b ∷ s) n g = rw g
 
 module _ (h w : Bytes) where
   none-found : isSkipped w ≡ true → Sizes 0 0 ≡ bestOf (labels h) (readLine w)
-  unfolding readLine bestOf sizes filterBy mostLabels
+  unfolding readLine bestOf sizes filterBy maxLabels
   none-found e = rw e
 
   pub line-empty : length w ≡ 0 → Sizes 0 0 ≡ bestOf (labels h) (readLine w)

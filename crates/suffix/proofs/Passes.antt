@@ -16,8 +16,8 @@ use Rattle.ascii.specs.Ascii.{Bytes, if_then_else_, _>>=_, filterBy, takeWhile,
 use Rattle.ascii.proofs.Scan.{while-rest, while-stops, scan-rest, scan-part, scan-from, scan-to}
 use Rattle.ascii.proofs.Split.{onFirst, split-while, on-first-end, on-first-here}
 use Rattle.suffix.specs.Host.{labels}
-use Rattle.suffix.specs.Suffix.{Rule, isBlank, content, isSkipped, readRule, readLines, readTable, matches, mostLabels}
-use Rattle.suffix.specs.Pass.{sizes, bestOf, joinBest, oneRule, readLine, inLine, inContent}
+use Rattle.suffix.specs.Suffix.{Rule, isBlank, content, isSkipped, readRule, readLines, readTable, matches}
+use Rattle.suffix.specs.Pass.{maxLabels, sizes, bestOf, joinBest, oneRule, readLine, inLine, inContent}
 use Rattle.suffix.specs.declared.Best.{Best}
 use Rattle.suffix.specs.declared.Best.the-variants.{Bad, Sizes}
 
@@ -80,14 +80,14 @@ zero-most k = omega arith
 
 -- one rule more
 rule-more : (host : List Bytes) (r : Rule) (rs : List Rule) → bestOf host (some (r ∷ rs)) ≡ joinBest (bestOf host (some (r ∷ []))) (bestOf host (some rs))
-unfolding bestOf sizes joinBest filterBy mostLabels
+unfolding bestOf sizes joinBest filterBy maxLabels
 rule-more host r rs = go (matches host r)
   where
     inner : (x : Bool) (n : ℕ) (ms : List Rule)
-        → Sizes (mostLabels (if x then r ∷ filterBy (λ r. r .exception) ms else filterBy (λ r. r .exception) ms)) (max n (mostLabels ms))
-        ≡ Sizes (max (mostLabels (if x then r ∷ [] else [])) (mostLabels (filterBy (λ r. r .exception) ms))) (max (max n 0) (mostLabels ms))
-    inner true n ms = ap₂ Sizes (sym (most-one (length (r .names)) (mostLabels (filterBy (λ r. r .exception) ms)))) (sym (most-one n (mostLabels ms)))
-    inner false n ms = ap₂ Sizes (sym (zero-most (mostLabels (filterBy (λ r. r .exception) ms)))) (sym (most-one n (mostLabels ms)))
+        → Sizes (maxLabels (if x then r ∷ filterBy (λ r. r .exception) ms else filterBy (λ r. r .exception) ms)) (max n (maxLabels ms))
+        ≡ Sizes (max (maxLabels (if x then r ∷ [] else [])) (maxLabels (filterBy (λ r. r .exception) ms))) (max (max n 0) (maxLabels ms))
+    inner true n ms = ap₂ Sizes (sym (most-one (length (r .names)) (maxLabels (filterBy (λ r. r .exception) ms)))) (sym (most-one n (maxLabels ms)))
+    inner false n ms = ap₂ Sizes (sym (zero-most (maxLabels (filterBy (λ r. r .exception) ms)))) (sym (most-one n (maxLabels ms)))
 
     go : (u : Bool) → sizes (if u then r ∷ filterBy (matches host) rs else filterBy (matches host) rs) ≡ joinBest (sizes (if u then r ∷ [] else [])) (sizes (filterBy (matches host) rs))
     go true = inner (r .exception) (length (r .names)) (filterBy (matches host) rs)
@@ -100,7 +100,7 @@ lines-step host l ls = go (isSkipped (content l)) (readRule (content l)) (readLi
   where
     go : (u : Bool) (r : Option Rule) (rs : Option (List Rule))
         → bestOf host (if u then rs else (r >>= λ r. rs >>= λ rs. some (r ∷ rs))) ≡ joinBest (bestOf host (if u then some [] else oneRule r)) (bestOf host rs)
-    go true r rs = unfold bestOf sizes filterBy mostLabels in (sym (join-zero (bestOf host rs)))
+    go true r rs = unfold bestOf sizes filterBy maxLabels in (sym (join-zero (bestOf host rs)))
     go false none rs = unfold bestOf oneRule joinBest in refl
     go false (some r) none = unfold bestOf oneRule in (sym (join-bad (sizes (filterBy (matches host) (r ∷ [])))))
     go false (some r) (some rs) = unfold oneRule in (rule-more host r rs)
@@ -110,7 +110,7 @@ unfolding splitAt readLines content takeWhile isSkipped
 none-left host = refl
 
 none-sizes : (host : List Bytes) → bestOf host (readLines []) ≡ Sizes 0 0
-unfolding readLines bestOf sizes filterBy mostLabels
+unfolding readLines bestOf sizes filterBy maxLabels
 none-sizes host = refl
 
 -- ---- the content of a line, and the next line

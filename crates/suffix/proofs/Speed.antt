@@ -13,7 +13,7 @@ use Rattle.ascii.specs.Ascii.{Bytes, if_then_else_, _>>=_, between, all, any, f
 use Rattle.ascii.proofs.Split.{join-split}
 use Rattle.suffix.specs.Host.{labels, isLabel, isHost, isAddress}
 use Rattle.suffix.specs.Place.{endsAtLabel}
-use Rattle.suffix.specs.Suffix.{Rule, normal, nameMatches, allMatch, matches, suffixSize, publicSuffix, privateLabels, labelUnder, readTable, privateLabel}
+use Rattle.suffix.specs.Suffix.{Rule, normal, nameMatches, allMatch, matches, prevailing, suffixSize, publicSuffix, privateLabels, labelUnder, readTable, privateLabel}
 use Rattle.suffix.specs.Deeper.{goesDeeper, deeperIn, isDeeper, isTheLabel}
 use Rattle.suffix.proofs.Case.{last-map, drop-map, all-match, is-address, labels-lower}
 use Rattle.suffix.proofs.Ends.{Alike, both-ways, true-false, same-eq, same-refl, all-equal, all-matching, labels-some, Begin, begin-labels, begin-is, names-lower, lower-names, ends-match, match-ends}
@@ -102,7 +102,7 @@ module _ (ls host : List Bytes) (l : length ls ≤ length host) (e : Alike (last
 
 pub record LabelIs (rules : List Rule) (host ls : List Bytes) : Type 0 where
   pub size : ℕ
-  pub suffix : suffixSize (filterBy (matches host) rules) ≡ size
+  pub suffix : suffixSize (prevailing (filterBy (matches host) rules)) ≡ size
   pub below : size < length host
   pub name : isAddress host ≡ false
   pub is : ls ≡ lastOf (size + 1) host
@@ -112,7 +112,7 @@ unfolding privateLabels publicSuffix
 label-is rules host ls p = go (isAddress host) (leb (length host) (length (lastOf n host))) refl refl p
   where
     n : ℕ
-    n = suffixSize (filterBy (matches host) rules)
+    n = suffixSize (prevailing (filterBy (matches host) rules))
 
     go : (u v : Bool) → isAddress host ≡ u → leb (length host) (length (lastOf n host)) ≡ v
         → (if u then none else if v then none else some (lastOf (length (lastOf n host) + 1) host)) ≡ some ls → LabelIs rules host ls
@@ -125,7 +125,7 @@ label-is rules host ls p = go (isAddress host) (leb (length host) (length (lastO
         let q : lastOf (length (lastOf n host) + 1) host ≡ ls = cc in
         record { size = n; suffix = refl; below = omega arith; name = a; is = sym q ∙ rw f }
 
-pub is-label : (rules : List Rule) (host : List Bytes) (n : ℕ) → suffixSize (filterBy (matches host) rules) ≡ n → n < length host → isAddress host ≡ false
+pub is-label : (rules : List Rule) (host : List Bytes) (n : ℕ) → suffixSize (prevailing (filterBy (matches host) rules)) ≡ n → n < length host → isAddress host ≡ false
     → privateLabels rules host ≡ some (lastOf (n + 1) host)
 unfolding privateLabels publicSuffix
 is-label rules host n s b a = let f = length-last n host (omega arith) in rw (a, s, f, lt-leb (length host) n b)
@@ -148,8 +148,8 @@ module _ (rules : List Rule) (host₀ ls : List Bytes) (p : privateLabels rules 
   module _ (host : List Bytes) where
     pub alike-labels : length ls ≤ length host → Alike (lastOf (length ls) host) ls → privateLabels rules host ≡ some (lastOf (length ls) host)
     alike-labels l e =
-        let f : suffixSize (filterBy (matches host) rules) ≡ P .size =
-        ap suffixSize (rules-same ls host l e rules d ∙ sym (rules-same ls host₀ inside own rules d)) ∙ P .suffix in
+        let f : suffixSize (prevailing (filterBy (matches host) rules)) ≡ P .size =
+        ap (λ (ms : List Rule). suffixSize (prevailing ms)) (rules-same ls host l e rules d ∙ sym (rules-same ls host₀ inside own rules d)) ∙ P .suffix in
         let a : isAddress host ≡ false =
         address-same ls host l e (omega (arith, size-ls)) ∙ sym (address-same ls host₀ inside own (omega (arith, size-ls))) ∙ P .name in
         is-label rules host (P .size) f (omega (arith, size-ls)) a ∙ rw size-ls

@@ -7,8 +7,8 @@ use Prim.Native.Nat.{ℕ, suc, max}
 use lib.ListN.{length}
 use Rattle.ascii.specs.Ascii.{Bytes, if_then_else_, isNone, filterBy, lastOf}
 use Rattle.suffix.specs.Host.{labels}
-use Rattle.suffix.specs.Suffix.{Rule, content, matches, mostLabels, privateLabel}
-use Rattle.suffix.specs.Pass.{readLine, LabelAt}
+use Rattle.suffix.specs.Suffix.{Rule, content, matches, privateLabel}
+use Rattle.suffix.specs.Pass.{maxLabels, readLine, LabelAt}
 use Rattle.suffix.specs.Deeper.{goesDeeper, isDeeper}
 use Rattle.suffix.specs.declared.Depths.{Depths}
 use Rattle.suffix.specs.declared.Depths.the-variants.{Wrong, Found}
@@ -35,7 +35,7 @@ linesDepth host (l ∷ ls) = max (lineDepth host (readLine (content l))) (linesD
 unfoldable pub depthsOf : List Bytes → Option (List Rule) → Depths
 depthsOf host none = Wrong
 depthsOf host (some rules) =
-    Found (mostLabels (filterBy (λ r. r .exception) (filterBy (matches host) rules))) (mostLabels (filterBy (matches host) rules)) (deepest host rules)
+    Found (maxLabels (filterBy (λ r. r .exception) (filterBy (matches host) rules))) (maxLabels (filterBy (matches host) rules)) (deepest host rules)
 
 -- the line is none that makes the table bad
 pub record Good (line : Bytes) : Type 0 where

@@ -8,12 +8,17 @@ use Prim.Native.Char.{code}
 use lib.ListN.{length, drop}
 use lib.Dec.{eqb, ltb}
 use Rattle.ascii.specs.Ascii.{Bytes, if_then_else_, _>>=_, filterBy}
-use Rattle.suffix.specs.Suffix.{Rule, isBlank, isSkipped, readRule, matches, mostLabels, privateLabel}
+use Rattle.suffix.specs.Suffix.{Rule, isBlank, isSkipped, readRule, matches, privateLabel}
 use Rattle.suffix.specs.declared.Best.{Best}
 use Rattle.suffix.specs.declared.Best.the-variants.{Bad, Sizes}
 
+-- how many labels the rule with most labels has; 0 where there is no rule
+unfoldable pub maxLabels : List Rule → ℕ
+maxLabels [] = 0
+maxLabels (r ∷ rs) = max (length (r .names)) (maxLabels rs)
+
 unfoldable pub sizes : List Rule → Best
-sizes matching = Sizes (mostLabels (filterBy (λ r. r .exception) matching)) (mostLabels matching)
+sizes matching = Sizes (maxLabels (filterBy (λ r. r .exception) matching)) (maxLabels matching)
 
 unfoldable pub bestOf : List Bytes → Option (List Rule) → Best
 bestOf host none = Bad

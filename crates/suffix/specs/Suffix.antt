@@ -1,12 +1,12 @@
 -- The suffix table, its rules, and the private label of a host (document 01, "Hosts and private labels").
 use mathlib.Core.List.{List, [], _∷_}
 use mathlib.Core.Bool.{Bool, true, false, _&&_, _||_, not}
-use mathlib.Core.Option.{Option, none, some}
-use Prim.Native.Nat.{ℕ, _+_, _-_, max}
+use mathlib.Core.Option.{Option, none, some, Option·getD}
+use Prim.Native.Nat.{ℕ, _+_, _-_}
 use Prim.Native.Char.{code}
 use lib.ListN.{length, drop}
 use lib.Dec.{eqb, leb, ltb}
-use Rattle.ascii.specs.Ascii.{Bytes, if_then_else_, _>>=_, all, any, filterBy, isEmpty, takeWhile, lastOf, splitAt, joinWith, isDigit, same, sameNoCase, beginsWith, text}
+use Rattle.ascii.specs.Ascii.{Bytes, if_then_else_, _>>=_, _orElse_, filterBy, isEmpty, takeWhile, lastOf, splitAt, joinWith, same, sameNoCase, beginsWith, text}
 use Rattle.suffix.specs.Host.{labels, isHost, isAddress}
 
 -- ---- the table
@@ -67,19 +67,31 @@ allMatch (n ∷ ns) (l ∷ ls) = nameMatches n l && allMatch ns ls
 unfoldable pub matches : List Bytes → Rule → Bool
 matches host r = leb (length (r .names)) (length host) && allMatch (r .names) (lastOf (length (r .names)) host)
 
-unfoldable pub mostLabels : List Rule → ℕ
-mostLabels [] = 0
-mostLabels (r ∷ rs) = max (length (r .names)) (mostLabels rs)
+-- ---- the prevailing rule
 
--- how many labels the public suffix has, of the rules that match
-unfoldable pub suffixSize : List Rule → ℕ
-suffixSize matching =
-    if any (λ r. r .exception) matching then mostLabels (filterBy (λ r. r .exception) matching) - 1 else
-    if isEmpty matching then 1 else
-    mostLabels matching
+-- the rule `*`
+abbrev pub star : Rule
+star = normal (text "*" ∷ [])
+
+abbrev pub longer : Rule → Option Rule → Rule
+longer r none = r
+longer r (some s) = if ltb (length (r .names)) (length (s .names)) then s else r
+
+-- the one with most labels; none where there is no rule
+unfoldable pub mostLabels : List Rule → Option Rule
+mostLabels [] = none
+mostLabels (r ∷ rules) = some (longer r (mostLabels rules))
+
+-- of matching rules an exception prevails, else the one with most labels; among exceptions, most labels; with no match the rule `*`
+unfoldable pub prevailing : List Rule → Rule
+prevailing matching = Option·getD (mostLabels (filterBy (λ r. r .exception) matching) orElse mostLabels matching) star
+
+-- the labels matched, less the leftmost one under an exception
+unfoldable pub suffixSize : Rule → ℕ
+suffixSize r = if r .exception then length (r .names) - 1 else length (r .names)
 
 unfoldable pub publicSuffix : List Rule → List Bytes → List Bytes
-publicSuffix rules host = lastOf (suffixSize (filterBy (matches host) rules)) host
+publicSuffix rules host = lastOf (suffixSize (prevailing (filterBy (matches host) rules))) host
 
 -- ---- the private label
 
