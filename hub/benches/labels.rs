@@ -85,7 +85,7 @@ fn nanoseconds<T>(mut call: impl FnMut() -> T) -> f64 {
 fn main() {
     let text = published::list();
     let table = published::table();
-    let rules: String = table.split_inclusive('\n').filter(|l| *l != "\n" && !l.starts_with("//")).collect();
+    let rules = published::rules(&table).join("\n");
     let list: List = text.parse().expect("the published list");
     let psl = libpsl::List::load(published::LIST);
 

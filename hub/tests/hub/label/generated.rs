@@ -24,7 +24,7 @@ const DAMAGE: &[u8] = b"..-*!/ \t\r\n\0_:aAzZ@[`{09\x7f\x80\xc3\xff\x0b\x0c";
 fn labels(random: &mut Random, least: usize, most: usize) -> Vec<u8> {
     let count = least + random.below(most - least + 1);
     let mut labels: Vec<Vec<u8>> = (0..count).map(|_| random.pick(&LABELS).into()).collect();
-    if random.chance(2) {
+    if random.chance(4) {
         // Labels around the bound of 63; four of them are around the bound of 253.
         let some = random.below(labels.len() + 1);
         for label in &mut labels[some..] {
@@ -41,7 +41,7 @@ fn labels(random: &mut Random, least: usize, most: usize) -> Vec<u8> {
 fn rule(random: &mut Random) -> Vec<u8> {
     match random.below(10) {
         0..=3 => labels(random, 1, 3),
-        4..=5 => [b"*.".to_vec(), labels(random, 1, 2)].concat(),
+        4..=5 => [b"*.".to_vec(), labels(random, 1, 4)].concat(),
         6..=8 => [b"!".to_vec(), labels(random, 2, 4)].concat(),
         _ => b"*".to_vec(),
     }
