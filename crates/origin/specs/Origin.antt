@@ -67,6 +67,10 @@ iosPrefix = text "ios:bundle-id:"
 unfoldable pub isIos : Bytes → Bool
 isIos s = beginsWith iosPrefix s && between 1 255 (length (drop 14 s)) && all isHostByte (drop 14 s)
 
+-- one of the two prefixes, in lower case
+unfoldable pub beginsNative : Bytes → Bool
+beginsNative s = beginsWith androidPrefix s || beginsWith iosPrefix s
+
 unfoldable pub isNative : Bytes → Bool
 isNative s = isAndroid s || isIos s
 

@@ -1,0 +1,4 @@
+pub mod Steps
+pub mod Readings
+pub mod Laws
+pub mod Writings
