@@ -53,6 +53,15 @@ fn first(name: &[u8], s: &[u8], n: usize) {
     }
 }
 
+// Every byte of s is the letter a.
+fn fill(s: &mut [u8]) {
+    let mut i = 0;
+    while i < s.len() {
+        s[i] = 97;
+        i += 1;
+    }
+}
+
 fn case(s: &[u8]) {
     named(s, s);
 }
@@ -137,7 +146,8 @@ fn hosts() {
 
 // Labels of 63, 63, 63 and the rest.
 fn long_hosts() {
-    let mut s = [97u8; 269];
+    let mut s = io::buffer();
+    fill(&mut s);
     origin::normal::write_bytes(b"https://", &mut s, 0);
     first(b"label of 63", &s, 71);
     first(b"label of 64", &s, 72);
@@ -149,14 +159,15 @@ fn long_hosts() {
 }
 
 fn longest_origin() {
-    let mut s = [97u8; 269];
+    let mut s = io::buffer();
+    fill(&mut s);
     origin::normal::write_bytes(b"https://", &mut s, 0);
     s[71] = 46;
     s[135] = 46;
     s[199] = 46;
     origin::normal::write_bytes(b":65535//", &mut s, 261);
     first(b"origin of 268", &s, 268);
-    named(b"origin of 269", &s);
+    first(b"origin of 269", &s, 269);
 }
 
 fn hashes() {
@@ -185,17 +196,19 @@ fn bundles() {
 }
 
 fn long_bundles() {
-    let mut s = [97u8; 270];
+    let mut s = io::buffer();
+    fill(&mut s);
     origin::normal::write_bytes(b"ios:bundle-id:", &mut s, 0);
     first(b"bundle name of 255", &s, 269);
-    named(b"bundle name of 256", &s);
+    first(b"bundle name of 256", &s, 270);
 }
 
 fn long_urls() {
-    let mut s = [97u8; 2049];
+    let mut s = io::buffer();
+    fill(&mut s);
     origin::normal::write_bytes(b"https://a.b/", &mut s, 0);
     first(b"URL of 2048", &s, 2048);
-    named(b"URL of 2049", &s);
+    first(b"URL of 2049", &s, 2049);
 }
 
 fn main() {
