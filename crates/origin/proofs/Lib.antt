@@ -5,3 +5,4 @@ pub mod Writings
 pub mod Origins
 pub mod NormalForms
 pub mod PlainBytes
+pub mod Bounds

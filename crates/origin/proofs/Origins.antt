@@ -50,7 +50,9 @@ holds P none a h e = let z : _≡_ {A = ℕ} 0 1 = cc in absurd (omega arith)
 holds P (some b) a h e = let z : b ≡ a = cc in rw (← z) h
 
 abbrev PortRead : Bytes → Bytes → Authority → Type 0
-PortRead host s a = (a .host ≡ host) × ((isEmpty (a .port) || isPort (a .port)) ≡ true) × (length (shownPort (a .port)) + length (a .tail) ≤ length s)
+PortRead host s a =
+    (a .host ≡ host) × ((isEmpty (a .port) || isPort (a .port)) ≡ true) × (length (shownPort (a .port)) + length (a .tail) ≤ length s)
+    × (length s ≤ 1 + length (a .port) + length (a .tail))
 
 shown-length : (p : Bytes) → length (shownPort p) ≤ 1 + length p
 unfolding shownPort
@@ -67,9 +69,9 @@ port-read host s = go (beginsWith (text ":") s) refl (isPort (takeWhile isDigit 
     go : (t : Bool) → beginsWith (text ":") s ≡ t → (u : Bool) → isPort (takeWhile isDigit (drop 1 s)) ≡ u
         → Holds (PortRead host s) (if not t then some (record { host = host; port = []; tail = s }) else
         if u then some (record { host = host; port = takeWhile isDigit (drop 1 s); tail = dropWhile isDigit (drop 1 s) }) else none)
-    go false e u f = (refl, refl, unfold shownPort in omega arith)
+    go false e u f = (refl, refl, unfold shownPort in omega arith, omega arith)
     go true e true f =
-        (refl, rw (f, or-true), omega (arith, shown-length (takeWhile isDigit (drop 1 s)), while-split isDigit (drop 1 s), length-drop 1 s, begins-length (text ":") s e))
+        (refl, rw (f, or-true), omega (arith, shown-length (takeWhile isDigit (drop 1 s)), while-split isDigit (drop 1 s), length-drop 1 s, begins-length (text ":") s e), omega (arith, while-split isDigit (drop 1 s), length-drop 1 s))
     go true e false f = tt
 
 -- a is read of s
@@ -79,6 +81,7 @@ pub record ReadOf (s : Bytes) (a : Authority) : Type 0 where
   pub host-bytes : all isHostByte (a .host) ≡ true
   pub good-port : (isEmpty (a .port) || isPort (a .port)) ≡ true
   pub long : 8 + length (a .host) + length (shownPort (a .port)) + length (a .tail) ≤ length s
+  pub whole : length s ≤ 9 + length (a .host) + length (a .port) + length (a .tail)
 
 https-least : (s : Bytes) → beginsHttps s ≡ true → 8 ≤ length s
 unfolding beginsHttps beginsWithNoCase
@@ -99,6 +102,7 @@ https-read s = go (beginsHttps s) refl (isHost (takeWhile isHostByte (drop 8 s))
       host-bytes = rw (h .0) (while-all isHostByte (drop 8 s));
       good-port = h .1;
       long = omega (arith, ap length (h .0), h .2, while-split isHostByte (drop 8 s), length-drop 8 s, https-least s b);
+      whole = omega (arith, ap length (h .0), h .3, while-split isHostByte (drop 8 s), length-drop 8 s);
     }
 
 -- where a test of the tail stands behind the reading
