@@ -1,0 +1,10 @@
+pub mod Steps
+pub mod Scan
+pub mod Words
+pub mod Bytes
+pub mod NumberSteps
+pub mod Plain
+pub mod Escapes
+pub mod Chars
+pub mod Holding
+pub mod Laws
