@@ -15,21 +15,21 @@ use Rattle.json_text.specs.Utf8.{thenTail, thenTails, multibyteChar, encodeUtf8
 use Rattle.json_text.specs.Lexical.{isBlank, ws, digits, int, frac, exp, readNumber, unescaped, hexValue, hexDigit, hex4, lowAfter, codePoint, escaped, readChar, readChars, readString}
 use Rattle.json.specs.Json.{Json, literal, number, string, array, object, toItems, toMembers, items, listed, readMember, readArray, readObject, valueOf, readValue, readText, valueRead, readJson}
 use Rattle.json_text.proofs.Steps.{inside, under, above}
-use Rattle.json_text.proofs.Escapes.{hex-high}
+use Rattle.json_text.proofs.EscapeSteps.{hex-high}
 
-abbrev start : Due
+abbrev pub start : Due
 start = due 0 0 0
 
 -- from the state d, what p takes up leads to the state d′
-abbrev Goes : {A : Type 0} → Due → Due → Bytes → Read A → Type 0
+abbrev pub Goes : {A : Type 0} → Due → Due → Bytes → Read A → Type 0
 Goes d d′ l (got a n) = utf8From d l ≡ utf8From d′ (drop n l)
 Goes d d′ l bad = Unit {0}
 
-record Leads {A : Type 0} (d : Due) (p : Reader A) (d′ : Due) : Type 0 where
-  at : (l : Bytes) → Goes d d′ l (p l)
+pub record Leads {A : Type 0} (d : Due) (p : Reader A) (d′ : Due) : Type 0 where
+  pub at : (l : Bytes) → Goes d d′ l (p l)
 
 -- whole characters
-abbrev Whole : {A : Type 0} → Reader A → Type 0
+abbrev pub Whole : {A : Type 0} → Reader A → Type 0
 Whole p = Leads start p start
 
 goes-more : {A : Type 0} (d d′ d″ : Due) (n : ℕ) (l : Bytes) (r : Read A) → utf8From d l ≡ utf8From d′ (drop n l) → Goes d′ d″ (drop n l) r → Goes d d″ l (more n r)
@@ -42,15 +42,15 @@ unfolding behind
 goes-bind d d′ d″ k l (got a n) e f = goes-more d d′ d″ n l (k a (drop n l)) e (f a .at (drop n l))
 goes-bind d d′ d″ k l bad e f = tt
 
-leads-bind : {A B : Type 0} {d d′ d″ : Due} (p : Reader A) (k : A → Reader B) → Leads d p d′ → ((a : A) → Leads d′ (k a) d″) → Leads d (p >>= k) d″
+pub leads-bind : {A B : Type 0} {d d′ d″ : Due} (p : Reader A) (k : A → Reader B) → Leads d p d′ → ((a : A) → Leads d′ (k a) d″) → Leads d (p >>= k) d″
 unfolding _>>=_
 leads-bind {d} {d′} {d″} p k s f = record { at = λ l. goes-bind d d′ d″ k l (p l) (s .at l) f }
 
-whole-give : {A : Type 0} (a : A) → Whole (give a)
+pub whole-give : {A : Type 0} (a : A) → Whole (give a)
 unfolding give
 whole-give a = record { at = λ l. refl }
 
-whole-fail : {A : Type 0} → Whole {A = A} fail
+pub whole-fail : {A : Type 0} → Whole {A = A} fail
 unfolding fail
 whole-fail = record { at = λ l. tt }
 
@@ -67,7 +67,7 @@ whole-or : {A : Type 0} (p q : Reader A) → Whole p → Whole q → Whole (p or
 unfolding _or_
 whole-or p q s t = record { at = λ l. goes-or start start l (p l) (q l) (s .at l) (t .at l) }
 
-whole-next : {A : Type 0} (bytes : Bytes) (p q : Reader A) → Whole p → Whole q → Whole (ifNext bytes then p else q)
+pub whole-next : {A : Type 0} (bytes : Bytes) (p q : Reader A) → Whole p → Whole q → Whole (ifNext bytes then p else q)
 unfolding ifNext_then_else_
 whole-next bytes p q s t = record { at = λ l. goes-if start start (among bytes (peek l)) l (p l) (q l) (s .at l) (t .at l) }
 
@@ -75,7 +75,7 @@ whole-if : {A : Type 0} (t : Bool) (p q : Reader A) → Whole p → Whole q → 
 whole-if true p q s t = s
 whole-if false p q s t = t
 
-whole-counted : {A : Type 0} (p : ℕ → Reader A) → ((n : ℕ) → Whole (p n)) → Whole (counted p)
+pub whole-counted : {A : Type 0} (p : ℕ → Reader A) → ((n : ℕ) → Whole (p n)) → Whole (counted p)
 unfolding counted
 whole-counted p f = record { at = λ l. f (suc (length l)) .at l }
 
@@ -99,7 +99,7 @@ whole-verbatim p s = record { at = λ l. goes-written start start l (p l) (s .at
 
 -- ---- ASCII bytes
 
-first-ascii : (b : ℕ) → b ≤ 0x7F → leadByte b ≡ start
+pub first-ascii : (b : ℕ) → b ≤ 0x7F → leadByte b ≡ start
 unfolding leadByte
 first-ascii b h = rw (le-leb b 0x7F h)
 
@@ -157,7 +157,7 @@ ascii-between lo hi h b e = go (leb lo b) (leb b hi) refl e
     go true false q k = let z : _≡_ {A = ℕ} 0 1 = cc in absurd (omega arith)
     go false u q k = let z : _≡_ {A = ℕ} 0 1 = cc in absurd (omega arith)
 
-whole-byte : (c : ℕ) → leb c 0x7F ≡ true → Whole (oneOf (c ∷ []))
+pub whole-byte : (c : ℕ) → leb c 0x7F ≡ true → Whole (oneOf (c ∷ []))
 whole-byte c h = whole-one (among (c ∷ [])) (ascii-among (c ∷ []) (unfold Low in (h, tt)))
 
 whole-word : (w : Bytes) → Low w → Whole (word w)
@@ -185,7 +185,7 @@ ascii-blank b e = ascii-among (0x20 ∷ 0x09 ∷ 0x0A ∷ 0x0D ∷ []) (unfold L
     blank-among false false false true e = refl
     blank-among false false false false e = e
 
-whole-ws : Whole ws
+pub whole-ws : Whole ws
 whole-ws = whole-many isBlank ascii-blank
 
 whole-digits : Whole digits
@@ -221,7 +221,7 @@ leads-range k lo hi h = record { at = go }
     go [] = goes-one _ _ [] (between lo hi 256) (λ e. not-both (sym e ∙ no-range lo hi h))
     go (b ∷ l) = goes-one _ _ (b ∷ l) (between lo hi b) (λ e. tail-step k lo hi b l e)
 
-same-start : (lo hi : ℕ) (l : Bytes) → utf8From (due 0 lo hi) l ≡ utf8From start l
+pub same-start : (lo hi : ℕ) (l : Bytes) → utf8From (due 0 lo hi) l ≡ utf8From start l
 unfolding utf8From nextByte
 same-start lo hi [] = refl
 same-start lo hi (b ∷ l) = refl
@@ -357,7 +357,7 @@ whole-escaped =
     short : (b c : ℕ) (q : Reader ℕ) → b ≤ 0x7F → Whole q → Whole (lead b to b then give c else q)
     short b c q h t = ascii-lead b b (give c) q h (whole-give c) t
 
-whole-char : Whole readChar
+pub whole-char : Whole readChar
 unfolding readChar
 whole-char = whole-next (92 ∷ []) _ _ (leads-bind _ _ (whole-byte 92 refl) λ u. whole-giving escaped encodeUtf8 whole-escaped) (whole-verbatim unescaped whole-unescaped)
 
@@ -368,14 +368,14 @@ whole-chars (suc n) =
     whole-next (34 ∷ []) _ _ (leads-bind _ _ (whole-byte 34 refl) λ u. whole-give [])
     (leads-bind readChar _ whole-char λ c. leads-bind (readChars n) _ (whole-chars n) λ cs. whole-give (c ++ cs))
 
-whole-string : Whole readString
+pub whole-string : Whole readString
 unfolding readString
 whole-string = leads-bind _ _ (whole-byte 34 refl) λ u. whole-counted readChars whole-chars
 
 -- ---- values, texts
 
 module _ {A : Type 0} (p : Reader A) (s : Whole p) (c : ℕ) (h : leb c 0x7F ≡ true) where
-  whole-items : (n : ℕ) → Whole (items p (c ∷ []) n)
+  pub whole-items : (n : ℕ) → Whole (items p (c ∷ []) n)
   unfolding items
   whole-items zero = whole-fail
   whole-items (suc n) =
@@ -388,7 +388,7 @@ module _ {A : Type 0} (p : Reader A) (s : Whole p) (c : ℕ) (h : leb c 0x7F ≡
   whole-listed = leads-bind ws _ whole-ws λ u. whole-next (c ∷ []) _ _ (leads-bind _ _ (whole-byte c h) λ u. whole-give []) (whole-counted _ whole-items)
 
 module _ (p : Reader Json) (s : Whole p) where
-  whole-member : Whole (readMember p)
+  pub whole-member : Whole (readMember p)
   unfolding readMember
   whole-member =
       leads-bind readString _ whole-string λ name. leads-bind ws _ whole-ws λ u. leads-bind _ _ (whole-byte 58 refl) λ u. leads-bind ws _ whole-ws λ u. whole-giving p (λ v. (name, v)) s
@@ -412,7 +412,7 @@ whole-valueOf X Y s t =
     (whole-next (34 ∷ []) _ _ (whole-giving readString string whole-string)
     (whole-giving (verbatim readNumber) number (whole-verbatim readNumber whole-number)))))))
 
-whole-value : (d : ℕ) → Whole (readValue d)
+pub whole-value : (d : ℕ) → Whole (readValue d)
 unfolding readValue
 whole-value zero = whole-valueOf fail fail whole-fail whole-fail
 whole-value (suc d) = whole-valueOf _ _ (whole-array (readValue d) (whole-value d)) (whole-object (readValue d) (whole-value d))
@@ -444,7 +444,7 @@ ends-text : (l : Bytes) → Ends l (readText l)
 unfolding readText
 ends-text l = ends-bind ws _ l λ u m. ends-bind (readValue 16) _ m λ v o. ends-bind ws _ o λ u q. ends-end v q
 
-whole-end : Whole endOfText
+pub whole-end : Whole endOfText
 unfolding endOfText
 whole-end = record { at = λ l. go l (isEmpty l) }
   where

@@ -1,12 +1,9 @@
--- JSON texts (RFC 8259), as document 01 reads them: a tree, and a reader of it from bytes.
-use mathlib.Core.List.{List, [], _∷_, _++_}
-use mathlib.Core.Bool.{Bool, true, false, _&&_, _||_, not}
+-- JSON texts (RFC 8259, sections 2 to 5), nested at most 16 deep as document 01 has it: a tree, and its reader.
+use mathlib.Core.List.{List, [], _∷_}
 use mathlib.Core.Option.{Option, none, some}
-use Prim.Native.Nat.{ℕ, zero, suc, _+_, _-_, _*_}
-use Prim.Native.Char.{code}
-use lib.Dec.{eqb, leb, ltb}
-use Rattle.ascii.specs.Ascii.{Bytes, if_then_else_, between, isDigit, text}
-use Rattle.json_text.specs.Reader.{Read, got, bad, Reader, _>>=_, _>>_, give, fail, endOfText, peek, satisfy, oneOf, byteRange, many, word, ifNext_then_else_, lead_to_then_else_, _or_, optional, _giving_, verbatim, counted}
+use Prim.Native.Nat.{ℕ, zero, suc}
+use Rattle.ascii.specs.Ascii.{Bytes, text}
+use Rattle.json_text.specs.Reader.{Read, got, bad, Reader, _>>=_, _>>_, give, fail, endOfText, oneOf, word, ifNext_then_else_, _giving_, verbatim, counted}
 use Rattle.json_text.specs.Lexical.{ws, readNumber, readString}
 
 -- ---- the tree
@@ -36,7 +33,7 @@ unfoldable pub toMembers : List (Bytes × Json) → Members
 toMembers [] = noMember
 toMembers (m ∷ ms) = member (m .0) (m .1) (toMembers ms)
 
--- ---- sections 3 to 5: values
+-- ---- sections 4 and 5: objects and arrays
 
 -- item *( value-separator item ), and the closing byte
 unfoldable pub items : {A : Type 0} → Reader A → Bytes → ℕ → Reader (List A)
@@ -70,6 +67,8 @@ readArray value = oneOf (text "[") >> listed value (text "]") giving λ vs. arra
 unfoldable pub readObject : Reader Json → Reader Json
 readObject value = oneOf (text "{") >> listed (readMember value) (text "}") giving λ ms. object (toMembers ms)
 
+-- ---- section 3: values
+
 -- value = false / null / true / object / array / number / string
 unfoldable pub valueOf : Reader Json → Reader Json → Reader Json
 valueOf readArray readObject =
@@ -86,7 +85,7 @@ unfoldable pub readValue : ℕ → Reader Json
 readValue zero = valueOf fail fail
 readValue (suc d) = valueOf (readArray (readValue d)) (readObject (readValue d))
 
--- ---- a whole text
+-- ---- section 2: a whole text
 
 -- JSON-text = ws value ws
 unfoldable pub readText : Reader Json

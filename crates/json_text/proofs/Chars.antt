@@ -50,7 +50,7 @@ module _ {s : Bytes} {i b : ℕ} (g : Peeked s i b) where
 
 -- ---- a character takes up a byte or more, and there is one
 
-abbrev Ahead : {A : Type 0} → Read A → Type 0
+abbrev pub Ahead : {A : Type 0} → Read A → Type 0
 Ahead (got a n) = 1 ≤ n
 Ahead bad = Unit {0}
 
@@ -90,7 +90,7 @@ ahead-plain : (l : Bytes) → Ahead (unescaped l)
 unfolding unescaped
 ahead-plain l = ahead-lead 0x20 0x21 _ _ l (ahead-lead 0x23 0x5B _ _ l (ahead-lead 0x5D 0x7F _ _ l (ahead-wide l)))
 
-ahead-char : (l : Bytes) → Ahead (readChar l)
+pub ahead-char : (l : Bytes) → Ahead (readChar l)
 unfolding readChar ifNext_then_else_ verbatim
 ahead-char l = ahead-if (among (92 ∷ []) (peek l)) _ _ (ahead-one (among (92 ∷ [])) _ l) (ahead-written l (unescaped l) (ahead-plain l))
 

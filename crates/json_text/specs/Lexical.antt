@@ -1,12 +1,11 @@
--- JSON texts (RFC 8259), as document 01 reads them: a tree, and a reader of it from bytes.
+-- The lexical grammar of JSON (RFC 8259, sections 2, 6 and 7), with its ABNF above each definition.
 use mathlib.Core.List.{List, [], _∷_, _++_}
-use mathlib.Core.Bool.{Bool, true, false, _&&_, _||_, not}
-use mathlib.Core.Option.{Option, none, some}
+use mathlib.Core.Bool.{Bool, _||_}
 use Prim.Native.Nat.{ℕ, zero, suc, _+_, _-_, _*_}
 use Prim.Native.Char.{code}
-use lib.Dec.{eqb, leb, ltb}
+use lib.Dec.{eqb, ltb}
 use Rattle.ascii.specs.Ascii.{Bytes, if_then_else_, between, isDigit, text}
-use Rattle.json_text.specs.Reader.{Read, got, bad, Reader, _>>=_, _>>_, give, fail, endOfText, peek, satisfy, oneOf, byteRange, many, word, ifNext_then_else_, lead_to_then_else_, _or_, optional, _giving_, verbatim, counted}
+use Rattle.json_text.specs.Reader.{got, bad, Reader, _>>=_, _>>_, give, fail, peek, satisfy, oneOf, byteRange, many, word, ifNext_then_else_, lead_to_then_else_, _or_, optional, _giving_, verbatim, counted}
 use Rattle.json_text.specs.Utf8.{multibyteChar, encodeUtf8}
 
 -- ---- section 2: blanks
@@ -20,7 +19,7 @@ ws = many isBlank
 
 -- ---- section 6: numbers
 
--- 1*DIGIT
+-- 1*DIGIT ; DIGIT = %x30-39
 unfoldable pub digits : Reader (Unit {0})
 digits = satisfy isDigit >> many isDigit
 
@@ -85,7 +84,7 @@ codePoint = do
       if between 0xDC00 0xDFFF c then fail else
       give c
 
--- after a backslash: the code point that is meant
+-- %x22 / %x5C / %x2F / %x62 / %x66 / %x6E / %x72 / %x74 / %x75 4HEXDIG, after a backslash: the code point that is meant
 unfoldable pub escaped : Reader ℕ
 escaped =
     lead 0x22 to 0x22 then give 0x22 else
@@ -99,7 +98,7 @@ escaped =
     lead 0x75 to 0x75 then codePoint else
     fail
 
--- char = unescaped / escape ( .. ), as UTF-8
+-- char = unescaped / escape ( .. ): the bytes that it means in UTF-8
 unfoldable pub readChar : Reader Bytes
 readChar = ifNext text "\\" then oneOf (text "\\") >> escaped giving encodeUtf8 else verbatim unescaped
 

@@ -84,21 +84,21 @@ infix 5 ifNext_then_else_
 unfoldable pub ifNext_then_else_ : {A : Type 0} → Bytes → Reader A → Reader A → Reader A
 ifNext_then_else_ bytes p q s = if among bytes (peek s) then p s else q s
 
--- a byte lead lo to hi and then p; where no such byte is next, q
+-- a byte from lo to hi and then p; where no such byte is next, q
 infix 5 lead_to_then_else_
 unfoldable pub lead_to_then_else_ : {A : Type 0} → ℕ → ℕ → Reader A → Reader A → Reader A
 lead_to_then_else_ lo hi p q s = if between lo hi (peek s) then (byteRange lo hi >> p) s else q s
 
--- p, or q where p fails
 unfoldable pub eitherRead : {A : Type 0} → Read A → Read A → Read A
 eitherRead (got a n) r = got a n
 eitherRead bad r = r
 
+-- p, or q where p fails
 infixr 9 _or_
 unfoldable pub _or_ : {A : Type 0} → Reader A → Reader A → Reader A
 _or_ p q s = eitherRead (p s) (q s)
 
--- [ p ]
+-- [ p ]: where p fails, nothing is read
 abbrev pub optional : Reader (Unit {0}) → Reader (Unit {0})
 optional p = p or give tt
 

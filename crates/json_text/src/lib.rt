@@ -1,7 +1,9 @@
 // The lexical part of JSON (RFC 8259, sections 2, 6 and 7): blanks, words, numbers and strings.
 pub mod decoding;
+pub mod escapes;
 pub mod numbers;
 pub mod strings;
+pub mod unescaped;
 
 ghost use mathlib.Core.Path.{_≡_};
 ghost use Prim.Native.Nat.{_<_};

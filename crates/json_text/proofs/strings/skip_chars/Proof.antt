@@ -5,7 +5,7 @@ use Rattle.json_text.specs.Reader.{counted}
 use Rattle.json_text.specs.Lexical.{readChars}
 use Rattle.json_text.specs.Places.{readAt, placeOf}
 use Rattle.json_text.proofs.Chars.{Spells}
-use Rattle.json_text.proofs.Laws.{hex-fits, string-laws}
+use Rattle.json_text.proofs.Laws.{fits, string-laws}
 use Rattle.json_text.proofs.strings.skip_chars.Statement.{statement}
 use Rattle.json_text.proofs.strings.skip_chars.Tie as tie
 
@@ -24,17 +24,17 @@ skip-chars-spec =
     {- loop-holds -}
     (λ c. search string-laws)
     {- byte-at-requires -}
-    (λ c κs. search hex-fits)
+    (λ c κs. search fits)
     {- add-t7 -}
-    (λ c. search hex-fits)
+    (λ c. search fits)
     {- returns -}
     (λ c. search string-laws)
     {- skip-char-requires -}
-    (λ c κs. search hex-fits)
+    (λ c κs. search fits)
     {- enum-known-j -}
-    (λ c. search hex-fits)
+    (λ c. search fits)
     {- enum-told -}
-    (λ c. search hex-fits)
+    (λ c. search fits)
     {- returns-2 -}
     (λ c. search string-laws)
     {- loop-less -}

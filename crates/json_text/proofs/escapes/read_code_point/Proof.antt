@@ -1,7 +1,7 @@
 -- `json_text::read_code_point` meets its contract.
-use Rattle.json_text.proofs.Laws.{hex-fits, string-laws}
-use Rattle.json_text.proofs.strings.read_code_point.Statement.{statement}
-use Rattle.json_text.proofs.strings.read_code_point.Tie as tie
+use Rattle.json_text.proofs.Laws.{escape-laws, hex-fits}
+use Rattle.json_text.proofs.escapes.read_code_point.Statement.{statement}
+use Rattle.json_text.proofs.escapes.read_code_point.Tie as tie
 
 pub read-code-point-spec : {M : Type 1} → statement M
 read-code-point-spec =
@@ -14,15 +14,15 @@ read-code-point-spec =
     {- enum-told -}
     (λ c. search hex-fits)
     {- returns -}
-    (λ c. search string-laws)
+    (λ c. search escape-laws)
     {- returns-2 -}
-    (λ c. search string-laws)
+    (λ c. search escape-laws)
     {- returns-3 -}
-    (λ c. search string-laws)
+    (λ c. search escape-laws)
     {- returns-4 -}
-    (λ c. search string-laws)
+    (λ c. search escape-laws)
     {- slice-aggregate-skip-word -}
-    (λ c. search string-laws)
+    (λ c. search escape-laws)
     {- skip-word-requires -}
     (λ c κs. search hex-fits)
     {- enum-known-j -}
@@ -30,7 +30,7 @@ read-code-point-spec =
     {- enum-told-2 -}
     (λ c. search hex-fits)
     {- returns-5 -}
-    (λ c. search string-laws)
+    (λ c. search escape-laws)
     {- read-hex-requires-2 -}
     (λ c κs. search hex-fits)
     {- enum-known-low -}
@@ -38,11 +38,11 @@ read-code-point-spec =
     {- enum-told-3 -}
     (λ c. search hex-fits)
     {- returns-6 -}
-    (λ c. search string-laws)
+    (λ c. search escape-laws)
     {- returns-7 -}
-    (λ c. search string-laws)
+    (λ c. search escape-laws)
     {- returns-8 -}
-    (λ c. search string-laws)
+    (λ c. search escape-laws)
     {- mul-t16 -}
     (λ c. search hex-fits)
     {- add-t17 -}
@@ -50,4 +50,4 @@ read-code-point-spec =
     {- add-t19 -}
     (λ c. search hex-fits)
     {- returns-9 -}
-    (λ c. search string-laws))
+    (λ c. search escape-laws))

@@ -1,7 +1,7 @@
 -- `json_text::read_escape` meets its contract.
-use Rattle.json_text.proofs.Laws.{hex-fits, string-laws}
-use Rattle.json_text.proofs.strings.read_escape.Statement.{statement}
-use Rattle.json_text.proofs.strings.read_escape.Tie as tie
+use Rattle.json_text.proofs.Laws.{escape-laws, hex-fits}
+use Rattle.json_text.proofs.escapes.read_escape.Statement.{statement}
+use Rattle.json_text.proofs.escapes.read_escape.Tie as tie
 
 pub read-escape-spec : {M : Type 1} → statement M
 read-escape-spec =
@@ -30,22 +30,22 @@ read-escape-spec =
     {- read-code-point-requires -}
     (λ c κs. search hex-fits)
     {- returns -}
-    (λ c. search string-laws)
+    (λ c. search escape-laws)
     {- returns-2 -}
-    (λ c. search string-laws)
+    (λ c. search escape-laws)
     {- returns-3 -}
-    (λ c. search string-laws)
+    (λ c. search escape-laws)
     {- returns-4 -}
-    (λ c. search string-laws)
+    (λ c. search escape-laws)
     {- returns-5 -}
-    (λ c. search string-laws)
+    (λ c. search escape-laws)
     {- returns-6 -}
-    (λ c. search string-laws)
+    (λ c. search escape-laws)
     {- returns-7 -}
-    (λ c. search string-laws)
+    (λ c. search escape-laws)
     {- returns-8 -}
-    (λ c. search string-laws)
+    (λ c. search escape-laws)
     {- returns-9 -}
-    (λ c. search string-laws)
+    (λ c. search escape-laws)
     {- returns-10 -}
-    (λ c. search string-laws))
+    (λ c. search escape-laws))

@@ -1,7 +1,7 @@
 -- `json_text::read_hex` meets its contract.
-use Rattle.json_text.proofs.Laws.{hex-fits, string-laws}
-use Rattle.json_text.proofs.strings.read_hex.Statement.{statement}
-use Rattle.json_text.proofs.strings.read_hex.Tie as tie
+use Rattle.json_text.proofs.Laws.{escape-laws, hex-fits}
+use Rattle.json_text.proofs.escapes.read_hex.Statement.{statement}
+use Rattle.json_text.proofs.escapes.read_hex.Tie as tie
 
 pub read-hex-spec : {M : Type 1} → statement M
 read-hex-spec =
@@ -12,7 +12,7 @@ read-hex-spec =
     {- hex-digit-requires -}
     (λ c κs. search hex-fits)
     {- returns -}
-    (λ c. search string-laws)
+    (λ c. search escape-laws)
     {- add-i -}
     (λ c. search hex-fits)
     {- byte-at-requires-2 -}
@@ -20,7 +20,7 @@ read-hex-spec =
     {- hex-digit-requires-2 -}
     (λ c κs. search hex-fits)
     {- returns-2 -}
-    (λ c. search string-laws)
+    (λ c. search escape-laws)
     {- add-j -}
     (λ c. search hex-fits)
     {- byte-at-requires-3 -}
@@ -28,7 +28,7 @@ read-hex-spec =
     {- hex-digit-requires-3 -}
     (λ c κs. search hex-fits)
     {- returns-3 -}
-    (λ c. search string-laws)
+    (λ c. search escape-laws)
     {- add-k -}
     (λ c. search hex-fits)
     {- byte-at-requires-4 -}
@@ -36,7 +36,7 @@ read-hex-spec =
     {- hex-digit-requires-4 -}
     (λ c κs. search hex-fits)
     {- returns-4 -}
-    (λ c. search string-laws)
+    (λ c. search escape-laws)
     {- mul-t12 -}
     (λ c. search hex-fits)
     {- mul-t13 -}
@@ -52,4 +52,4 @@ read-hex-spec =
     {- add-t18 -}
     (λ c. search hex-fits)
     {- returns-5 -}
-    (λ c. search string-laws))
+    (λ c. search escape-laws))

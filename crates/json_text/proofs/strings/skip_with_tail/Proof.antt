@@ -1,9 +1,0 @@
--- `json_text::skip_with_tail` meets its contract.
-use Rattle.json_text.proofs.Laws.{hex-fits, string-laws}
-use Rattle.json_text.proofs.strings.skip_with_tail.Statement.{statement}
-use Rattle.json_text.proofs.strings.skip_with_tail.Tie as tie
-
-pub skip-with-tail-spec : {M : Type 1} → statement M
-skip-with-tail-spec =
-    tie.close
-    (tie.spec {- skip-range-requires -} (λ c κs. search hex-fits) {- enum-known-i -} (λ c. search hex-fits) {- enum-told -} (λ c. search hex-fits) {- returns -} (λ c. search string-laws) {- skip-range-requires-2 -} (λ c κs. search hex-fits) {- returns-2 -} (λ c. search string-laws))
