@@ -7,6 +7,8 @@ use native.Mathlib.Omega.{arith}
 use mathlib.Core.Option.{Option, none, some}
 use lib.ListN.{length, drop, drop-of-length-le}
 use lib.Seq.{drop-cons}
+use lib.Dec.{leb}
+use borrow.Author.Tests.{leb-true, leb-false}
 use native.Mathlib.Nat.{add-zero}
 use Rattle.ascii.specs.Ascii.{Bytes, if_then_else_, isEmpty, isNone, text}
 use Rattle.json_text.specs.Reader.{Read, got, bad, Reader, more, give, fail, endOfText, oneOf, word, peek, ifNext_then_else_, _giving_, verbatim, mapped}
@@ -156,10 +158,17 @@ module _ (s : Bytes) {i : ℕ} {q : Next} (e : readAt ws s 0 ≡ got tt i) (f : 
   text-bad h = rw (text-is s, on _ _ _ _ e, then-bad _ _ _ _ (missed _ f h))
 
   module _ {j k : ℕ} (h : q ≡ At j) (g : readAt ws s j ≡ got tt k) where
-    pub text-more : k < length s → false ≡ not (isNone (readJson s))
+    text-more : k < length s → false ≡ not (isNone (readJson s))
     unfolding readText
     text-more l = rw (text-is s, on _ _ _ _ e, on _ _ _ _ (found _ f h .1), on _ _ _ _ g, then-bad _ _ _ _ (end-no s k l))
 
-    pub text-whole : length s ≤ k → true ≡ not (isNone (readJson s))
+    text-whole : length s ≤ k → true ≡ not (isNone (readJson s))
     unfolding readText
     text-whole l = rw (text-is s, on _ _ _ _ e, on _ _ _ _ (found _ f h .1), on _ _ _ _ g, on _ _ _ _ (end-yes s k l), give-at)
+
+    pub text-end : leb (length s) k ≡ not (isNone (readJson s))
+    text-end = go (leb (length s) k) refl
+      where
+        go : (t : Bool) → leb (length s) k ≡ t → t ≡ not (isNone (readJson s))
+        go true l = text-whole (leb-true (length s) k l)
+        go false l = text-more (leb-false (length s) k l)

@@ -107,8 +107,5 @@ pub fn is_readable(s: &[u8]) -> bool
         return false;
     };
     let k = json_text::skip_blanks(s, j);
-    if k < s.len() {
-        return false;
-    }
-    true
+    s.len() <= k
 }

@@ -144,11 +144,11 @@ unfolding more asWritten
 written-bad i l (got b n) e = let z : _≡_ {A = ℕ} 0 1 = cc in absurd (omega arith)
 written-bad i l bad e = refl
 
-verbatim-at : {A : Type 0} (p : Reader A) (s : Bytes) (i : ℕ) {a : A} {j : ℕ} → readAt p s i ≡ got a j → readAt (verbatim p) s i ≡ got (take (j - i) (drop i s)) j
+pub verbatim-at : {A : Type 0} (p : Reader A) (s : Bytes) (i : ℕ) {a : A} {j : ℕ} → readAt p s i ≡ got a j → readAt (verbatim p) s i ≡ got (take (j - i) (drop i s)) j
 unfolding readAt verbatim
 verbatim-at p s i e = written-at i (drop i s) (p (drop i s)) e
 
-verbatim-bad : {A : Type 0} (p : Reader A) (s : Bytes) (i : ℕ) → readAt p s i ≡ bad → readAt (verbatim p) s i ≡ bad
+pub verbatim-bad : {A : Type 0} (p : Reader A) (s : Bytes) (i : ℕ) → readAt p s i ≡ bad → readAt (verbatim p) s i ≡ bad
 unfolding readAt verbatim
 verbatim-bad p s i e = written-bad i (drop i s) (p (drop i s)) e
 

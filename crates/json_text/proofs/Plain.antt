@@ -83,9 +83,9 @@ module _ {s : Bytes} {i b : ℕ} (g : Peeked s i b) where
   unfolding multibyteChar placeOf
   wide-high h n = rw (lead-no g _ _ 0xC2 0xDF (above 0xC2 0xDF b (omega arith)), lead-no g _ _ 0xE0 0xE0 (above 0xE0 0xE0 b (omega arith)), lead-no g _ _ 0xE1 0xEC (above 0xE1 0xEC b (omega arith)), lead-no g _ _ 0xED 0xED (above 0xED 0xED b (omega arith)), lead-no g _ _ 0xEE 0xEF (above 0xEE 0xEF b (omega arith)), lead-no g _ _ 0xF0 0xF0 (above 0xF0 0xF0 b (omega arith)), lead-no g _ _ 0xF1 0xF3 (above 0xF1 0xF3 b (omega arith)), lead-no g _ _ 0xF4 0xF4 (above 0xF4 0xF4 b (omega arith)), fail-at)
 
-  pub plain-low : b < 0x20 → Bad ≡ placeOf (readAt unescaped s i)
+  pub plain-low : {n : ℕ} → b < n → n ≤ 0x20 → Bad ≡ placeOf (readAt unescaped s i)
   unfolding unescaped placeOf
-  plain-low h = rw (lead-no g _ _ 0x20 0x21 (under 0x20 0x21 b (omega arith)), lead-no g _ _ 0x23 0x5B (under 0x23 0x5B b (omega arith)), lead-no g _ _ 0x5D 0x7F (under 0x5D 0x7F b (omega arith)), wide-none (omega arith))
+  plain-low h k = rw (lead-no g _ _ 0x20 0x21 (under 0x20 0x21 b (omega arith)), lead-no g _ _ 0x23 0x5B (under 0x23 0x5B b (omega arith)), lead-no g _ _ 0x5D 0x7F (under 0x5D 0x7F b (omega arith)), wide-none (omega arith))
 
   pub plain-quote : b ≡ 0x22 → Bad ≡ placeOf (readAt unescaped s i)
   unfolding unescaped placeOf

@@ -12,6 +12,8 @@ use Rattle.json_text.specs.declared.Next.{Next}
 use Rattle.json_text.specs.declared.Next.the-variants.{At, Bad}
 use Rattle.json_text.specs.declared.Point.{Point}
 use Rattle.json_text.specs.declared.Point.the-variants.{Code, Wrong}
+use Rattle.json_text.specs.declared.Number.{Number}
+use Rattle.json_text.specs.declared.Number.the-variants.{Is, Other}
 use Rattle.json_text.specs.declared.Decoded.{Decoded}
 use Rattle.json_text.specs.declared.Text.{Text}
 
@@ -26,6 +28,10 @@ placeOf bad = Bad
 unfoldable pub pointOf : Read ℕ → Point
 pointOf (got c j) = Code c j
 pointOf bad = Wrong
+
+unfoldable pub numberOf : Number → Option ℕ
+numberOf (Is n) = some n
+numberOf Other = none
 
 -- b is the byte at the place i; 256 where there is none
 pub record Peeked (s : Bytes) (i b : ℕ) : Type 0 where

@@ -23,6 +23,12 @@ pub enum Point {
     Wrong,
 }
 
+// A number of at most 65535; or none.
+pub enum Number {
+    Is(u32),
+    Other,
+}
+
 // A decoded string of at most 512 bytes; `long` where it has more.
 pub struct Decoded {
     pub bytes: [u8; 512],

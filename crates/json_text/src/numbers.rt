@@ -1,11 +1,15 @@
 // Numbers (RFC 8259, section 6).
 use super::Next;
+use super::Number;
 use super::byte_at;
+use super::wide;
 ghost use mathlib.Core.Path.{_≡_};
-ghost use Rattle.ascii.specs.Ascii.{isDigit, text};
+ghost use Prim.Native.Nat.{_-_};
+ghost use lib.ListN.{take, drop};
+ghost use Rattle.ascii.specs.Ascii.{isDigit, number16, text};
 ghost use Rattle.json_text.specs.Reader.{got, many, oneOf, optional};
 ghost use Rattle.json_text.specs.Lexical.{digits, int, frac, exp, readNumber};
-ghost use Rattle.json_text.specs.Places.{readAt, placeOf};
+ghost use Rattle.json_text.specs.Places.{readAt, placeOf, numberOf};
 
 // Two comparisons: the class table of `ascii` would be copied for each byte.
 fn is_digit(b: u8) -> bool
@@ -118,4 +122,38 @@ pub fn skip_number(s: &[u8], from: usize) -> Next
     };
     let k = skip_frac(s, j);
     Next::At(skip_exp(s, k))
+}
+
+// The bytes of a part of s, read as digits and nothing else: a number of at most 65535.
+pub fn decimal_value(s: &[u8], from: usize, to: usize) -> Number
+    ensures { λ r. ⌜ numberOf r ≡ number16 (take (to - from) (drop from (now (s .entry)))) ⌝ }
+{
+    if to <= from {
+        return Number::Other;
+    }
+    if s.len() <= from {
+        return Number::Other;
+    }
+    let mut n: u32 = 0;
+    let mut i = from;
+    while i < to {
+        if i < s.len() {
+            let b = wide(s[i]);
+            if b < 48 {
+                return Number::Other;
+            }
+            if b > 57 {
+                return Number::Other;
+            }
+            let m = n * 10 + (b - 48) as u32;
+            if m > 65535 {
+                return Number::Other;
+            }
+            n = m;
+            i += 1;
+        } else {
+            return Number::Is(n);
+        }
+    }
+    Number::Is(n)
 }

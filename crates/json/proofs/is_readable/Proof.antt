@@ -20,6 +20,4 @@ is-readable-spec =
     {- skip-blanks-requires-2 -}
     (λ c κs. search fits)
     {- returns-2 -}
-    (λ c. search laws)
-    {- returns-3 -}
     (λ c. search laws))

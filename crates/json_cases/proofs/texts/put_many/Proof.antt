@@ -1,0 +1,33 @@
+-- `json_cases::put_many` meets its contract.
+use mathlib.Core.Path.{_≡_}
+use lib.ListN.{length}
+use borrow.Author.Needs.{needs}
+use Rattle.json_cases.proofs.texts.put_many.Statement.{statement}
+use Rattle.json_cases.proofs.texts.put_many.Tie as tie
+
+abbrev Inv-loop : tie.InvT-loop
+Inv-loop buf₀ at b n to₀ left₀ buf to left = length buf ≡ length buf₀
+
+abbrev μ-loop : tie.MeasureT-loop
+μ-loop buf₀ at b n to₀ left₀ buf to left = left
+
+pub put-many-spec : {M : Type 1} → statement M
+put-many-spec =
+    tie.close
+    (tie.spec
+    Inv-loop
+    μ-loop
+    {- loop-holds -}
+    (λ c. search needs)
+    {- put-requires -}
+    (λ c κs. search needs)
+    {- sub-left -}
+    (λ c. search needs)
+    {- loop-less -}
+    (λ c. search needs)
+    {- loop-again -}
+    (λ c. search needs)
+    {- same-length -}
+    (λ c. search needs)
+    {- returns -}
+    (λ c. search needs))

@@ -1,0 +1,51 @@
+// Strings of plain bytes and one last character, that decode to 500 to 529 bytes: up to 512 are held.
+use super::tally::Tally;
+use super::tally::none;
+use super::tally::tell;
+use super::texts::decodes_to;
+use super::texts::put;
+use super::texts::put_all;
+use super::texts::put_many;
+
+// A quotation mark, n bytes `a`, the bytes `written`, and `x` m times; these decode to the n bytes, `decoded`, and the m.
+fn one(n: usize, m: usize, written: &[u8], decoded: &[u8]) -> bool {
+    let mut buf_space = [0u8; 1024];
+    let buf: &mut [u8] = &mut buf_space;
+    let a = put(buf, 0, b'"');
+    let b = put_many(buf, a, b'a', n);
+    let c = put_all(buf, b, written);
+    let d = put_many(buf, c, b'x', m);
+    let e = put(buf, d, b'"');
+    let mut content_space = [0u8; 1024];
+    let content: &mut [u8] = &mut content_space;
+    let f = put_many(content, 0, b'a', n);
+    let g = put_all(content, f, decoded);
+    let h = put_many(content, g, b'x', m);
+    decodes_to(buf, e, content, h)
+}
+
+// The eleven ways to write a last character, of 1 to 4 decoded bytes.
+fn one_length(t: Tally, n: usize, m: usize) -> Tally {
+    let a = tell(t, one(n, m, b"", b""));
+    let b = tell(a, one(n, m, b"b", b"b"));
+    let c = tell(b, one(n, m, b"\\n", b"\x0A"));
+    let d = tell(c, one(n, m, b"\\u0000", b"\x00"));
+    let e = tell(d, one(n, m, b"\\u00e9", b"\xC3\xA9"));
+    let f = tell(e, one(n, m, b"\xC3\xA9", b"\xC3\xA9"));
+    let g = tell(f, one(n, m, b"\\u20AC", b"\xE2\x82\xAC"));
+    let h = tell(g, one(n, m, b"\xE2\x82\xAC", b"\xE2\x82\xAC"));
+    let i = tell(h, one(n, m, b"\\ud83d\\ude00", b"\xF0\x9F\x98\x80"));
+    let j = tell(i, one(n, m, b"\xF0\x9F\x98\x80", b"\xF0\x9F\x98\x80"));
+    tell(j, one(n, m, b"\xF4\x8F\xBF\xBF", b"\xF4\x8F\xBF\xBF"))
+}
+
+pub fn all() -> Tally {
+    let mut t = none();
+    let mut n = 500;
+    while n < 525 {
+        t = one_length(t, n, 0);
+        t = one_length(t, n, 1);
+        n += 1;
+    }
+    t
+}
