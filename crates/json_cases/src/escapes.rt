@@ -1,4 +1,4 @@
-// Every `\uXXXX`, alone and in pairs at the ends of the surrogates.
+// Every `\uXXXX` alone, and the pairs at the ends of the surrogates.
 use super::tally::Tally;
 use super::tally::none;
 use super::tally::tell;
@@ -56,18 +56,6 @@ pub fn all_alone() -> Tally {
     t
 }
 
-// `\uXXXX`, the bytes `between`, and `\uXXXX`.
-fn pair(high: u16, between: &[u8], low: u16) -> bool {
-    let mut buf_space = [0u8; 1024];
-    let buf: &mut [u8] = &mut buf_space;
-    let a = put(buf, 0, b'"');
-    let b = put_escape(buf, a, high, true);
-    let c = put_all(buf, b, between);
-    let d = put_escape(buf, c, low, false);
-    let e = put(buf, d, b'"');
-    is_readable(buf, e)
-}
-
 // A pair that decodes to these bytes.
 fn pair_is(high: u16, low: u16, decoded: &[u8]) -> bool {
     let mut buf_space = [0u8; 1024];
@@ -82,28 +70,10 @@ fn pair_is(high: u16, low: u16, decoded: &[u8]) -> bool {
     decodes_to(buf, e, content, m)
 }
 
-// With each of five low ends: 0xDBFF, 0xDC00, 0xDFFF, 0xE000 and 0x41.
-fn lows(t: Tally, high: u16, with_low: bool, with_other: bool) -> Tally {
-    let a = tell(t, !pair(high, b"", 0xDBFF));
-    let b = tell(a, pair(high, b"", 0xDC00) == with_low);
-    let c = tell(b, pair(high, b"", 0xDFFF) == with_low);
-    let d = tell(c, pair(high, b"", 0xE000) == with_other);
-    tell(d, pair(high, b"", 0x41) == with_other)
-}
-
+// The pairs at the ends of the surrogates.
 pub fn all_pairs() -> Tally {
-    let a = lows(none(), 0xD7FF, false, true);
-    let b = lows(a, 0xD800, true, false);
-    let c = lows(b, 0xDBFF, true, false);
-    let d = lows(c, 0xDC00, false, false);
-    let e = lows(d, 0xDFFF, false, false);
-    let f = lows(e, 0xE000, false, true);
-    let g = tell(f, !pair(0xD800, b"x", 0xDC00));
-    let h = tell(g, !pair(0xD800, b"\\", 0xDC00));
-    let i = tell(h, !pair(0xD800, b"\\n", 0xDC00));
-    let j = tell(i, !pair(0xD800, b"\"", 0xDC00));
-    let k = tell(j, pair_is(0xD800, 0xDC00, b"\xF0\x90\x80\x80"));
-    let l = tell(k, pair_is(0xD800, 0xDFFF, b"\xF0\x90\x8F\xBF"));
-    let m = tell(l, pair_is(0xDBFF, 0xDC00, b"\xF4\x8F\xB0\x80"));
-    tell(m, pair_is(0xDBFF, 0xDFFF, b"\xF4\x8F\xBF\xBF"))
+    let t = tell(none(), pair_is(0xD800, 0xDC00, b"\xF0\x90\x80\x80"));
+    let u = tell(t, pair_is(0xD800, 0xDFFF, b"\xF0\x90\x8F\xBF"));
+    let v = tell(u, pair_is(0xDBFF, 0xDC00, b"\xF4\x8F\xB0\x80"));
+    tell(v, pair_is(0xDBFF, 0xDFFF, b"\xF4\x8F\xBF\xBF"))
 }

@@ -24,19 +24,33 @@ fn one(n: usize, m: usize, written: &[u8], decoded: &[u8]) -> bool {
     decodes_to(buf, e, content, h)
 }
 
-// The eleven ways to write a last character, of 1 to 4 decoded bytes.
-fn one_length(t: Tally, n: usize, m: usize) -> Tally {
+// A last character of no byte or one, written in four ways.
+fn short(t: Tally, n: usize, m: usize) -> Tally {
     let a = tell(t, one(n, m, b"", b""));
     let b = tell(a, one(n, m, b"b", b"b"));
     let c = tell(b, one(n, m, b"\\n", b"\x0A"));
-    let d = tell(c, one(n, m, b"\\u0000", b"\x00"));
-    let e = tell(d, one(n, m, b"\\u00e9", b"\xC3\xA9"));
-    let f = tell(e, one(n, m, b"\xC3\xA9", b"\xC3\xA9"));
-    let g = tell(f, one(n, m, b"\\u20AC", b"\xE2\x82\xAC"));
-    let h = tell(g, one(n, m, b"\xE2\x82\xAC", b"\xE2\x82\xAC"));
-    let i = tell(h, one(n, m, b"\\ud83d\\ude00", b"\xF0\x9F\x98\x80"));
-    let j = tell(i, one(n, m, b"\xF0\x9F\x98\x80", b"\xF0\x9F\x98\x80"));
-    tell(j, one(n, m, b"\xF4\x8F\xBF\xBF", b"\xF4\x8F\xBF\xBF"))
+    tell(c, one(n, m, b"\\u0000", b"\x00"))
+}
+
+// Of two bytes or three.
+fn middle(t: Tally, n: usize, m: usize) -> Tally {
+    let a = tell(t, one(n, m, b"\\u00e9", b"\xC3\xA9"));
+    let b = tell(a, one(n, m, b"\xC3\xA9", b"\xC3\xA9"));
+    let c = tell(b, one(n, m, b"\\u20AC", b"\xE2\x82\xAC"));
+    tell(c, one(n, m, b"\xE2\x82\xAC", b"\xE2\x82\xAC"))
+}
+
+// Of four.
+fn wide(t: Tally, n: usize, m: usize) -> Tally {
+    let a = tell(t, one(n, m, b"\\ud83d\\ude00", b"\xF0\x9F\x98\x80"));
+    let b = tell(a, one(n, m, b"\xF0\x9F\x98\x80", b"\xF0\x9F\x98\x80"));
+    tell(b, one(n, m, b"\xF4\x8F\xBF\xBF", b"\xF4\x8F\xBF\xBF"))
+}
+
+fn one_length(t: Tally, n: usize, m: usize) -> Tally {
+    let a = short(t, n, m);
+    let b = middle(a, n, m);
+    wide(b, n, m)
 }
 
 pub fn all() -> Tally {

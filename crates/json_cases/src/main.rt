@@ -14,7 +14,8 @@ fn main() {
     tally::print(b"bytes behind a backslash", bytes::all_escaped());
     tally::print(b"two bytes", bytes::all_pairs());
     tally::print(b"\\u alone", escapes::all_alone());
-    tally::print(b"\\u in pairs", escapes::all_pairs());
+    tally::print(b"pairs decoded", escapes::all_pairs());
+    tally::print(b"surrogates", words::surrogates());
     tally::print(b"UTF-8", words::utf8());
     tally::print(b"numbers", words::numbers());
     tally::print(b"texts", words::texts());
