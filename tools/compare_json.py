@@ -7,7 +7,7 @@ strings, no surrogate outside a pair, at most 16 arrays and objects open togethe
 it is one string, its decoded bytes. It fails on a difference, and where a class of texts occurs fewer than 1,000 times.
 """
 import collections, json, os, random, struct, subprocess, sys
-COUNT, LEAST, MOST = 60000, 1000, 4096
+COUNT, LEAST, MOST = 120000, 1000, 4096
 RUN = os.path.join(os.path.dirname(os.path.dirname(os.path.abspath(__file__))), 'target', 'bin', 'json_run')
 rng = random.Random(8259)
 
@@ -132,7 +132,7 @@ for i, t in enumerate(texts):
         if failed <= 10: print('differs:', t, 'expected', line, 'got', got)
 for kind in ('readable', 'unreadable', 'string decoded', 'string too long', 'bad UTF-8', 'bad grammar', 'too deep', 'lone surrogate'):
     print(f'{kind}: {classes[kind]}')
-few = [kind for kind in ('readable', 'unreadable', 'string decoded', 'bad UTF-8', 'too deep', 'lone surrogate') if classes[kind] < LEAST]
+few = [kind for kind in classes if classes[kind] < LEAST]
 if few: print('too few:', ', '.join(few))
 if len(told) != COUNT: print('lines:', len(told), 'of', COUNT)
 print(f'{COUNT - failed} passed, {failed} failed')

@@ -5,22 +5,22 @@ use super::tally::tell;
 use super::texts::decodes_to;
 use super::texts::put;
 use super::texts::put_all;
-use super::texts::put_many;
+use super::texts::put_times;
 
 // A quotation mark, n bytes `a`, the bytes `written`, and `x` m times; these decode to the n bytes, `decoded`, and the m.
 fn one(n: usize, m: usize, written: &[u8], decoded: &[u8]) -> bool {
     let mut buf_space = [0u8; 1024];
     let buf: &mut [u8] = &mut buf_space;
     let a = put(buf, 0, b'"');
-    let b = put_many(buf, a, b'a', n);
+    let b = put_times(buf, a, b"a", n);
     let c = put_all(buf, b, written);
-    let d = put_many(buf, c, b'x', m);
+    let d = put_times(buf, c, b"x", m);
     let e = put(buf, d, b'"');
     let mut content_space = [0u8; 1024];
     let content: &mut [u8] = &mut content_space;
-    let f = put_many(content, 0, b'a', n);
+    let f = put_times(content, 0, b"a", n);
     let g = put_all(content, f, decoded);
-    let h = put_many(content, g, b'x', m);
+    let h = put_times(content, g, b"x", m);
     decodes_to(buf, e, content, h)
 }
 

@@ -19,12 +19,12 @@ pub fn put_all(buf: &mut [u8], at: usize, bytes: &[u8]) -> usize {
     to
 }
 
-// The byte b, n times.
-pub fn put_many(buf: &mut [u8], at: usize, b: u8, n: usize) -> usize {
+// The bytes, n times.
+pub fn put_times(buf: &mut [u8], at: usize, bytes: &[u8], n: usize) -> usize {
     let mut to = at;
     let mut left = n;
     while left > 0 {
-        to = put(buf, to, b);
+        to = put_all(buf, to, bytes);
         left -= 1;
     }
     to
