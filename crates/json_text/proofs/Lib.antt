@@ -1,0 +1,11 @@
+pub mod Steps
+pub mod Scan
+pub mod Words
+pub mod Bytes
+pub mod NumberSteps
+pub mod Decimals
+pub mod Plain
+pub mod EscapeSteps
+pub mod Chars
+pub mod Holding
+pub mod Laws

@@ -1,0 +1,27 @@
+-- `json_text::hex_digit` meets its contract.
+use Rattle.json_text.proofs.Laws.{escape-laws, hex-fits}
+use Rattle.json_text.proofs.escapes.hex_digit.Statement.{statement}
+use Rattle.json_text.proofs.escapes.hex_digit.Tie as tie
+
+pub hex-digit-spec : {M : Type 1} → statement M
+hex-digit-spec =
+    tie.close
+    (tie.spec
+    {- returns -}
+    (λ c. search escape-laws)
+    {- returns-2 -}
+    (λ c. search escape-laws)
+    {- returns-3 -}
+    (λ c. search escape-laws)
+    {- add-result -}
+    (λ c. search hex-fits)
+    {- returns-4 -}
+    (λ c. search escape-laws)
+    {- returns-5 -}
+    (λ c. search escape-laws)
+    {- add-result-2 -}
+    (λ c. search hex-fits)
+    {- returns-6 -}
+    (λ c. search escape-laws)
+    {- returns-7 -}
+    (λ c. search escape-laws))

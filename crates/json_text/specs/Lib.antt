@@ -1,0 +1,4 @@
+pub mod Reader
+pub mod Utf8
+pub mod Lexical
+pub mod Places

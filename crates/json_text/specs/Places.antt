@@ -1,0 +1,70 @@
+-- What a reader finds at a place of a text, and the answers of the code.
+use mathlib.Core.Path.{_≡_}
+use mathlib.Core.Bool.{Bool, true, false}
+use mathlib.Core.List.{_++_}
+use mathlib.Core.Option.{Option, none, some}
+use Prim.Native.Nat.{ℕ}
+use lib.Dec.{leb, ltb}
+use lib.ListN.{length, take, drop}
+use Rattle.ascii.specs.Ascii.{Bytes, if_then_else_, same}
+use Rattle.json_text.specs.Reader.{Read, got, bad, Reader, more, peek}
+use Rattle.json_text.specs.declared.Next.{Next}
+use Rattle.json_text.specs.declared.Next.the-variants.{At, Bad}
+use Rattle.json_text.specs.declared.Point.{Point}
+use Rattle.json_text.specs.declared.Point.the-variants.{Code, Wrong}
+use Rattle.json_text.specs.declared.Number.{Number}
+use Rattle.json_text.specs.declared.Number.the-variants.{Is, Other}
+use Rattle.json_text.specs.declared.Decoded.{Decoded}
+use Rattle.json_text.specs.declared.Text.{Text}
+
+-- what p reads at the place i of s, and the place behind it
+unfoldable pub readAt : {A : Type 0} → Reader A → Bytes → ℕ → Read A
+readAt p s i = more i (p (drop i s))
+
+unfoldable pub placeOf : {A : Type 0} → Read A → Next
+placeOf (got a j) = At j
+placeOf bad = Bad
+
+unfoldable pub pointOf : Read ℕ → Point
+pointOf (got c j) = Code c j
+pointOf bad = Wrong
+
+unfoldable pub numberOf : Number → Option ℕ
+numberOf (Is n) = some n
+numberOf Other = none
+
+-- b is the byte at the place i; 256 where there is none
+pub record Peeked (s : Bytes) (i b : ℕ) : Type 0 where
+  pub is : b ≡ peek (drop i s)
+
+-- ---- decoded strings
+
+-- at most 512 bytes are held; none: there are more, or the string is wrong
+unfoldable pub fit : Bytes → Option Bytes
+fit t = if leb (length t) 512 then some t else none
+
+unfoldable pub contentOf : Read Bytes → Option Bytes
+contentOf (got t j) = fit t
+contentOf bad = none
+
+-- the bytes that d holds
+unfoldable pub content : Decoded → Option Bytes
+content d = if d .long then none else if ltb 512 (d .len) then none else some (take (d .len) (d .bytes))
+
+-- more bytes behind those that are held
+unfoldable pub push : Option Bytes → Bytes → Option Bytes
+push none x = none
+push (some t) x = fit (t ++ x)
+
+unfoldable pub pushRead : Option Bytes → Read Bytes → Option Bytes
+pushRead h (got x j) = push h x
+pushRead h bad = none
+
+unfoldable pub isText : Option Bytes → Bytes → Bool
+isText none name = false
+isText (some t) name = same t name
+
+-- the string at a place: what it holds, and the place behind it
+pub record Holds (held : Option Bytes) (place : Next) (r : Text) : Type 0 where
+  pub held-is : content (r .decoded) ≡ held
+  pub end-is : r .end ≡ place

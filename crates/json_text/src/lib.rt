@@ -1,0 +1,101 @@
+// The lexical part of JSON (RFC 8259, sections 2, 6 and 7): blanks, words, numbers and strings.
+pub mod decoding;
+pub mod escapes;
+pub mod numbers;
+pub mod strings;
+pub mod unescaped;
+
+ghost use mathlib.Core.Path.{_≡_};
+ghost use Prim.Native.Nat.{_<_};
+ghost use Rattle.json_text.specs.Reader.{got, word};
+ghost use Rattle.json_text.specs.Lexical.{isBlank, ws};
+ghost use Rattle.json_text.specs.Places.{Peeked, readAt, placeOf};
+
+// The place behind what was read; or the bytes are wrong.
+pub enum Next {
+    At(usize),
+    Bad,
+}
+
+// A code point and the place behind it; or the bytes are wrong.
+pub enum Point {
+    Code(u32, usize),
+    Wrong,
+}
+
+// A number of at most 65535; or none.
+pub enum Number {
+    Is(u32),
+    Other,
+}
+
+// A decoded string of at most 512 bytes; `long` where it has more.
+pub struct Decoded {
+    pub bytes: [u8; 512],
+    pub len: usize,
+    pub long: bool,
+}
+
+// A decoded string and the place behind it.
+pub struct Text {
+    pub decoded: Decoded,
+    pub end: Next,
+}
+
+pub fn wide(x: u8) -> u16
+    ensures { λ r. ⌜ (r ≡ x) × (r < 256) ⌝ }
+{
+    x as u16
+}
+
+// The byte at a place, and 256 past the end.
+pub fn byte_at(s: &[u8], at: usize) -> u16
+    ensures { λ r. ⌜ Peeked (now (s .entry)) at r ⌝ }
+{
+    if at < s.len() { wide(s[at]) } else { 256 }
+}
+
+pub fn is_blank(b: u8) -> bool
+    ensures { λ r. ⌜ r ≡ isBlank b ⌝ }
+{
+    if b == 0x20 {
+        return true;
+    }
+    if b == 0x09 {
+        return true;
+    }
+    if b == 0x0A {
+        return true;
+    }
+    b == 0x0D
+}
+
+pub fn skip_blanks(s: &[u8], from: usize) -> usize
+    ensures { λ r. ⌜ readAt ws (now (s .entry)) from ≡ got tt r ⌝ }
+{
+    let mut i = from;
+    while i < s.len() {
+        if is_blank(s[i]) {
+            i += 1;
+        } else {
+            return i;
+        }
+    }
+    i
+}
+
+pub fn skip_word(s: &[u8], from: usize, w: &[u8]) -> Next
+    ensures { λ r. ⌜ r ≡ placeOf (readAt (word (now (w .entry))) (now (s .entry)) from) ⌝ }
+{
+    let mut i = from;
+    let mut k = 0;
+    while k < w.len() {
+        if byte_at(s, i) == wide(w[k]) {
+            i += 1;
+            k += 1;
+        } else {
+            return Next::Bad;
+        }
+    }
+    Next::At(i)
+}
