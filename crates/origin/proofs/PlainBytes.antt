@@ -1,0 +1,149 @@
+-- The normal form of a facet is printable ASCII that a JSON string holds as it is. Assumes nothing.
+use mathlib.Core.Path.{_≡_, refl, sym, ap, ap₂, _∙_}
+use mathlib.Core.List.{List, [], _∷_, _++_}
+use mathlib.Core.Bool.{Bool, true, false, _&&_, _||_, not, and-false, and-eq-true-iff}
+use mathlib.Core.Option.{Option, none, some}
+use Prim.Native.Nat.{ℕ, zero, suc, _+_, _-_, _≤_, _<_}
+use native.Mathlib.Omega.{arith}
+use lib.ListN.{length, drop}
+use lib.Dec.{T, eqb, leb}
+use borrow.Author.Tests.{leb-true, leb-false, lt-leb, ne-eqb}
+use Rattle.ascii.specs.Ascii.{Bytes, if_then_else_, isEmpty, all, between, isDigit, isUpper, isLetter, same, lower, beginsWith, text}
+use Rattle.ascii.proofs.Bytes.{below, each}
+use Rattle.suffix.specs.Host.{isLabelByte}
+use Rattle.origin.specs.Origin.{Authority, androidPrefix, iosPrefix, isPort, isHostByte, webOrigin, isKeyHashByte, isAndroid, isIos, isNative, isFacet, shownPort, normalWeb, normalForm}
+use Rattle.origin.specs.Normals.{isPlainByte}
+use Rattle.origin.proofs.Origins.{ReadOf, origin-read, port-digits, begins-split, facet-native-else}
+use Rattle.origin.proofs.NormalForms.{own-normal, web-normal, lower-bytes}
+
+-- ---- one byte
+
+implies : Bool → Bool → Bool
+implies true b = b
+implies false b = true
+
+-- f implies g at every byte, by computation, and f holds of nothing else
+passes : (f g : ℕ → Bool) → ((b : ℕ) → b < 256 → T (implies (f b) (g b))) → ((b : ℕ) → 256 ≤ b → f b ≡ false) → (b : ℕ) → f b ≡ true → g b ≡ true
+unfolding implies
+passes f g h k b e = go (leb 256 b) refl
+  where
+    told : (u v : Bool) → u ≡ true → T (implies u v) → v ≡ true
+    told true true p t = refl
+    told true false p t = absurd t
+    told false v p t = let z : _≡_ {A = ℕ} 0 1 = cc in absurd (omega arith)
+
+    go : (u : Bool) → leb 256 b ≡ u → g b ≡ true
+    go true p = let q : f b ≡ false = k b (leb-true 256 b p) in let z : _≡_ {A = ℕ} 0 1 = cc in absurd (omega arith)
+    go false p = told (f b) (g b) e (h b (leb-false 256 b p))
+
+module _ (b : ℕ) (h : 256 ≤ b) where
+  digit-small : isDigit b ≡ false
+  unfolding isDigit
+  digit-small = rw (lt-leb b 57 (omega arith)) (and-false (leb 48 b))
+
+  letter-small : isLetter b ≡ false
+  unfolding isLetter isUpper
+  letter-small = rw (lt-leb b 122 (omega arith), lt-leb b 90 (omega arith), and-false (leb 97 b), and-false (leb 65 b))
+
+  key-small : isKeyHashByte b ≡ false
+  unfolding isKeyHashByte
+  key-small = rw (letter-small, digit-small, ne-eqb b 43 (λ e. omega arith), ne-eqb b 47 (λ e. omega arith))
+
+  host-small : isHostByte b ≡ false
+  unfolding isHostByte isLabelByte
+  host-small = rw (letter-small, digit-small, ne-eqb b 45 (λ e. omega arith), ne-eqb b 46 (λ e. omega arith))
+
+host-plain : (b : ℕ) → isHostByte b ≡ true → isPlainByte b ≡ true
+unfolding implies isPlainByte isHostByte isLabelByte isLetter isUpper isDigit
+host-plain = passes isHostByte isPlainByte (each 256 (λ b. implies (isHostByte b) (isPlainByte b)) tt) host-small
+
+key-plain : (b : ℕ) → isKeyHashByte b ≡ true → isPlainByte b ≡ true
+unfolding implies isPlainByte isKeyHashByte isLetter isUpper isDigit
+key-plain = passes isKeyHashByte isPlainByte (each 256 (λ b. implies (isKeyHashByte b) (isPlainByte b)) tt) key-small
+
+digit-plain : (b : ℕ) → isDigit b ≡ true → isPlainByte b ≡ true
+unfolding implies isPlainByte isDigit
+digit-plain = passes isDigit isPlainByte (each 256 (λ b. implies (isDigit b) (isPlainByte b)) tt) digit-small
+
+-- ---- lists
+
+all-weaker : (f g : ℕ → Bool) → ((b : ℕ) → f b ≡ true → g b ≡ true) → (l : Bytes) → all f l ≡ true → all g l ≡ true
+unfolding all
+all-weaker f g h [] e = refl
+all-weaker f g h (b ∷ l) e = let p = and-eq-true-iff (f b) (all f l) .0 e in rw (h b (p .0), all-weaker f g h l (p .1))
+
+all-joined : (f : ℕ → Bool) (x y : Bytes) → all f x ≡ true → all f y ≡ true → all f (x ++ y) ≡ true
+unfolding all
+all-joined f [] y e h = h
+all-joined f (b ∷ x) y e h = let p = and-eq-true-iff (f b) (all f x) .0 e in rw (p .0, all-joined f x y (p .1) h)
+
+-- ---- web origins
+
+shown-plain : (p : Bytes) → (isEmpty p || isPort p) ≡ true → all isPlainByte (shownPort p) ≡ true
+unfolding shownPort
+shown-plain p e = go (isEmpty p) refl (same p (text "443"))
+  where
+    digits : isEmpty p ≡ false → all isPlainByte p ≡ true
+    digits f = let q : isPort p ≡ true = sym (ap (λ (u : Bool). u || isPort p) f) ∙ e in all-weaker isDigit isPlainByte digit-plain p (port-digits p q)
+
+    colon : all isPlainByte (text ":") ≡ true
+    colon = unfold all isPlainByte in refl
+
+    none-plain : all isPlainByte [] ≡ true
+    none-plain = unfold all in refl
+
+    go : (u : Bool) → isEmpty p ≡ u → (v : Bool) → all isPlainByte (if u || v then [] else text ":" ++ p) ≡ true
+    go true f v = none-plain
+    go false f true = none-plain
+    go false f false = all-joined isPlainByte (text ":") p colon (digits f)
+
+https-plain : all isPlainByte (text "https://") ≡ true
+unfolding all isPlainByte
+https-plain = refl
+
+web-plain : (a : Authority) (s : Bytes) → ReadOf s a → all isPlainByte (normalWeb a) ≡ true
+unfolding normalWeb
+web-plain a s R =
+    all-joined isPlainByte (text "https://" ++ lower (a .host)) (shownPort (a .port))
+    (all-joined isPlainByte (text "https://") (lower (a .host)) https-plain
+    (all-weaker isHostByte isPlainByte host-plain (lower (a .host)) (lower-bytes a (R .good-host) (R .host-bytes) (R .good-port))))
+    (shown-plain (a .port) (R .good-port))
+
+-- ---- native identities
+
+prefixes-plain : (all isPlainByte androidPrefix ≡ true) × (all isPlainByte iosPrefix ≡ true)
+unfolding all isPlainByte
+prefixes-plain = (refl, refl)
+
+module _ (s : Bytes) where
+  android-plain : isAndroid s ≡ true → all isPlainByte s ≡ true
+  unfolding isAndroid
+  android-plain e =
+      let h = and-eq-true-iff (beginsWith androidPrefix s && eqb (length (drop 21 s)) 27) (all isKeyHashByte (drop 21 s)) .0 e in
+      let k = and-eq-true-iff (beginsWith androidPrefix s) (eqb (length (drop 21 s)) 27) .0 (h .0) in
+      ap (all isPlainByte) (begins-split androidPrefix s (k .0))
+      ∙ all-joined isPlainByte androidPrefix (drop 21 s) (prefixes-plain .0) (all-weaker isKeyHashByte isPlainByte key-plain (drop 21 s) (h .1))
+
+  ios-plain : isIos s ≡ true → all isPlainByte s ≡ true
+  unfolding isIos
+  ios-plain e =
+      let h = and-eq-true-iff (beginsWith iosPrefix s && between 1 255 (length (drop 14 s))) (all isHostByte (drop 14 s)) .0 e in
+      let k = and-eq-true-iff (beginsWith iosPrefix s) (between 1 255 (length (drop 14 s))) .0 (h .0) in
+      ap (all isPlainByte) (begins-split iosPrefix s (k .0))
+      ∙ all-joined isPlainByte iosPrefix (drop 14 s) (prefixes-plain .1) (all-weaker isHostByte isPlainByte host-plain (drop 14 s) (h .1))
+
+  pub native-plain : isNative s ≡ true → all isPlainByte s ≡ true
+  unfolding isNative
+  native-plain e = go (isAndroid s) refl e
+    where
+      go : (u : Bool) → isAndroid s ≡ u → (u || isIos s) ≡ true → all isPlainByte s ≡ true
+      go true p q = android-plain p
+      go false p q = ios-plain q
+
+-- every byte of a facet's normal form is printable ASCII other than `"` and `\`
+pub facet-plain : (s : Bytes) → isFacet s ≡ true → all isPlainByte (normalForm s) ≡ true
+facet-plain s h = go (webOrigin s) refl
+  where
+    go : (o : Option Authority) → webOrigin s ≡ o → all isPlainByte (normalForm s) ≡ true
+    go none e = rw (own-normal s e) (native-plain s (facet-native-else s h e))
+    go (some a) e = rw (web-normal s a e) (web-plain a s (origin-read s a e))

@@ -1,0 +1,25 @@
+-- `origin::write_port` meets its contract. Assumes nothing.
+use Rattle.origin.proofs.Writings.{write-laws}
+use Rattle.origin.proofs.normal.write_port.Statement.{statement}
+use Rattle.origin.proofs.normal.write_port.Tie as tie
+
+pub write-port-spec : {M : Type 1} → statement M
+write-port-spec =
+    tie.close
+    (tie.spec
+    {- is-hidden-requires -}
+    (λ c κs. search write-laws)
+    {- returns -}
+    (λ c. search write-laws)
+    {- sub-write-bytes -}
+    (λ c. search write-laws)
+    {- part-write-bytes-start -}
+    (λ c. search write-laws)
+    {- part-write-bytes-end -}
+    (λ c. search write-laws)
+    {- write-bytes-requires -}
+    (λ c κs. search write-laws)
+    {- same-length -}
+    (λ c. search write-laws)
+    {- returns-2 -}
+    (λ c. search write-laws))

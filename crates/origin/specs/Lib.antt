@@ -1,0 +1,4 @@
+pub mod Origin
+pub mod Matching
+pub mod Parts
+pub mod Normals

@@ -1,0 +1,21 @@
+-- What a normal form keeps, and what its bytes are.
+use mathlib.Core.List.{List, []}
+use mathlib.Core.Bool.{Bool, true, false, _&&_, not}
+use Prim.Native.Nat.{ℕ}
+use Prim.Native.Char.{code}
+use lib.Dec.{eqb}
+use Rattle.ascii.specs.Ascii.{Bytes, if_then_else_, isEmpty, between, lower, value}
+use Rattle.origin.specs.Origin.{Authority}
+use Rattle.origin.specs.Parts.{isHidden}
+
+-- the port by its value, 443 where it is absent
+unfoldable pub effectivePort : Authority → ℕ
+effectivePort a = if isEmpty (a .port) then 443 else value (a .port)
+
+-- what is read of the normal form: the host in lower case, the port where it is shown, no tail
+unfoldable pub normalAuthority : Authority → Authority
+normalAuthority a = record { host = lower (a .host); port = if isHidden (a .port) then [] else a .port; tail = [] }
+
+-- printable ASCII that a JSON string holds as it is
+unfoldable pub isPlainByte : ℕ → Bool
+isPlainByte b = between 0x20 0x7E b && not (eqb b (code "\"")) && not (eqb b (code "\\"))

@@ -1,0 +1,96 @@
+-- What the code answers: where the parts of an identifier stand in it.
+use mathlib.Core.Path.{_≡_}
+use mathlib.Core.List.{List, [], _∷_, _++_}
+use mathlib.Core.Option.{Option, none, some}
+use mathlib.Core.Bool.{Bool, true, false, _||_}
+use Prim.Native.Nat.{ℕ, _+_, _-_, _≤_, _<_}
+use Prim.Native.Char.{code}
+use lib.ListN.{length, take, drop, getD}
+use lib.Dec.{leb}
+use Rattle.ascii.specs.Ascii.{Bytes, if_then_else_, isEmpty, lower, same, beginsWith, text, value, number16}
+use Rattle.ascii.specs.Numbers.{numberOf}
+use Rattle.ascii.specs.declared.decimals.Number.{Number}
+use Rattle.ascii.specs.declared.decimals.Number.the-variants.{Malformed as NoNumber}
+use Rattle.origin.specs.Origin.{Authority, shownPort}
+use Rattle.origin.specs.declared.Parts.{Parts}
+use Rattle.origin.specs.declared.Reading.{Reading}
+use Rattle.origin.specs.declared.Reading.the-variants.{Found, Malformed}
+
+-- the bytes of s from the place a up to the place b
+unfoldable pub part : Bytes → ℕ → ℕ → Bytes
+part s a b = take (b - a) (drop a s)
+
+-- the host stands behind `https://`, the port behind the host and its colon
+unfoldable pub authorityIn : Bytes → Reading → Option Authority
+authorityIn s Malformed = none
+authorityIn s (Found p) = some (record { host = part s 8 (p .end); port = part s (p .end + 1) (p .tail); tail = drop (p .tail) s })
+
+pub record Inside (s : Bytes) (p : Parts) : Type 0 where
+  pub low : 8 ≤ p .end
+  pub middle : p .end ≤ p .tail
+  pub high : p .tail ≤ length s
+  -- behind the host stands the colon, where there is a port
+  pub colon : p .end < p .tail → getD s (p .end) 0 ≡ code ":"
+  -- the port by its value; 0 where it is absent
+  pub port-is : p .port ≡ value (part s (p .end + 1) (p .tail))
+
+pub data Within (s : Bytes) : Reading → Type 0 where
+  nowhere : Within s Malformed
+  within : {p : Parts} → Inside s p → Within s (Found p)
+
+-- r is where the parts of the authority o stand in s
+pub record Reads (s : Bytes) (o : Option Authority) (r : Reading) : Type 0 where
+  pub is : authorityIn s r ≡ o
+  pub places : Within s r
+
+-- ---- what single steps of the code answer
+
+-- a host behind `https://` ends at this place
+pub record HostEnd (s : Bytes) (end : ℕ) : Type 0 where
+  pub low : 8 ≤ end
+  pub high : end ≤ length s
+
+-- the number of a port
+unfoldable pub portOf : Bytes → Number
+portOf p = if beginsWith (text "0") p then NoNumber else numberOf (number16 p)
+
+abbrev pub withoutPort : ℕ → Parts
+withoutPort end = record { end = end; port = 0; tail = end }
+
+-- nothing, or one final `/`
+unfoldable pub isEnd : Bytes → Bool
+isEnd t = isEmpty t || same t (text "/")
+
+-- `/` or `?`
+unfoldable pub beginsTail : Bytes → Bool
+beginsTail t = beginsWith (text "/") t || beginsWith (text "?") t
+
+-- the port is absent or 443
+unfoldable pub isHidden : Bytes → Bool
+isHidden p = isEmpty p || same p (text "443")
+
+-- a host, and a colon and a port or nothing, that end at these places
+pub record Placed (s : Bytes) (end tail : ℕ) : Type 0 where
+  pub low : 8 ≤ end
+  pub middle : end ≤ tail
+  pub high : tail ≤ length s
+  pub colon : end < tail → getD s end 0 ≡ code ":"
+
+-- the normal form of a web origin by these places
+unfoldable pub webAt : Bytes → ℕ → ℕ → Bytes
+webAt s end tail = text "https://" ++ lower (part s 8 end) ++ shownPort (part s (end + 1) tail)
+
+-- ---- writing
+
+-- x written into s at a place, the bytes before and behind unchanged; s itself where there is no room
+unfoldable pub writtenAt : Bytes → ℕ → Bytes → Bytes
+writtenAt s at x = if leb (at + length x) (length s) then take at s ++ x ++ drop (at + length x) s else s
+
+-- the place behind x, or the same place where there is no room
+unfoldable pub behind : Bytes → ℕ → Bytes → ℕ
+behind s at x = if leb (at + length x) (length s) then at + length x else at
+
+-- x is written, and r is the place behind it
+pub record Wrote (x : Bytes) (at : ℕ) (before after : Bytes) (r : ℕ) : Type 0 where
+  pub is : after ≡ writtenAt before at x
+  pub place : r ≡ behind before at x
