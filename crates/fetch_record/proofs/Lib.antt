@@ -1,0 +1,4 @@
+pub mod ItemLaws
+pub mod RecordLaws
+pub mod HopLaws
+pub mod Laws
