@@ -2,3 +2,4 @@ pub mod ItemLaws
 pub mod RecordLaws
 pub mod HopLaws
 pub mod Laws
+pub mod CallerLaws
