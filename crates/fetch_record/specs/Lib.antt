@@ -1,0 +1,3 @@
+pub mod Record
+pub mod Fetching
+pub mod Meaning
