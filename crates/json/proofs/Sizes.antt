@@ -9,6 +9,7 @@ use lib.ListN.{length, take, drop, length-append, length-drop, length-take}
 use lib.Dec.{eqb, leb, ltb}
 use Rattle.ascii.specs.Ascii.{Bytes, if_then_else_, isEmpty, between, among, isDigit, text}
 use Rattle.json_text.specs.Reader.{Read, got, bad, Reader, more, behind, _>>=_, _>>_, give, fail, endOfText, peek, satisfy, oneOf, byteRange, countWhile, many, word, ifNext_then_else_, lead_to_then_else_, eitherRead, _or_, mapped, _giving_, asWritten, verbatim, counted}
+use Rattle.json_text.specs.Places.{readAt}
 use Rattle.json_text.specs.Utf8.{thenTail, thenTails, multibyteChar, encodeUtf8}
 use Rattle.json_text.specs.Lexical.{isBlank, ws, digits, int, frac, exp, readNumber, unescaped, hexValue, hexDigit, hex4, lowAfter, codePoint, escaped, readChar, readChars, readString}
 use Rattle.json.specs.Json.{Json, literal, number, string, array, object, Jsons, noItem, item, Members, noMember, member, toItems, toMembers, items, listed, readMember, readArray, readObject, valueOf, readValue, readText, valueRead, readJson}
@@ -462,3 +463,25 @@ json-size s v e = go (readText s) (text-size .at s) e
     go : (r : Read Json) → Within size 0 s r → valueRead r ≡ some v → size v ≤ length s
     go (got a n) h e = let z : a ≡ v = unfold valueRead in cc in rw (← z) (omega arith)
     go bad h e = let z : _≡_ {A = ℕ} 0 1 = unfold valueRead in cc in absurd (omega arith)
+
+-- ---- a value takes up bytes of the text
+
+size-some : (v : Json) → 1 ≤ size v
+unfolding size
+size-some literal = omega arith
+size-some (number x) = omega arith
+size-some (string x) = omega arith
+size-some (array vs) = omega arith
+size-some (object ms) = omega arith
+
+pub record Spans (s : Bytes) (i j : ℕ) : Type 0 where
+  pub ahead : i < j
+  pub inside : j ≤ length s
+
+pub value-spans : (d : ℕ) (s : Bytes) (i : ℕ) {v : Json} {j : ℕ} → readAt (readValue d) s i ≡ got v j → Spans s i j
+unfolding readAt more
+value-spans d s i {v} {j} e = go (readValue d (drop i s)) (value-size d 0 .at (drop i s)) e
+  where
+    go : (r : Read Json) → Within (λ a. 0 + size a) 0 (drop i s) r → more i r ≡ got v j → Spans s i j
+    go (got a n) h e = let x : i + n ≡ j = cc in record { ahead = omega (arith, size-some a, h .0); inside = omega (arith, size-some a, h .0, h .1, length-drop i s) }
+    go bad h e = let z : _≡_ {A = ℕ} 0 1 = cc in absurd (omega arith)

@@ -1,0 +1,9 @@
+pub mod Walks
+pub mod FirstByte
+pub mod MemberLaws
+pub mod SlotLaws
+pub mod ShapeLaws
+pub mod LevelLaws
+pub mod SelectLaws
+pub mod EntryLaws
+pub mod Laws

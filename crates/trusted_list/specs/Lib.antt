@@ -1,0 +1,3 @@
+pub mod TrustedList
+pub mod Slots
+pub mod Entries
