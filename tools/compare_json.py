@@ -8,6 +8,7 @@ it is one string, its decoded bytes. It fails on a difference, and where a class
 """
 import collections, json, os, random, struct, subprocess, sys
 COUNT, LEAST, MOST = 120000, 1000, 4096
+KINDS = ('readable', 'unreadable', 'string decoded', 'string too long', 'bad UTF-8', 'bad grammar', 'too deep', 'lone surrogate')
 RUN = os.path.join(os.path.dirname(os.path.dirname(os.path.abspath(__file__))), 'target', 'bin', 'json_run')
 rng = random.Random(8259)
 
@@ -130,9 +131,9 @@ for i, t in enumerate(texts):
     if got != line:
         failed += 1
         if failed <= 10: print('differs:', t, 'expected', line, 'got', got)
-for kind in ('readable', 'unreadable', 'string decoded', 'string too long', 'bad UTF-8', 'bad grammar', 'too deep', 'lone surrogate'):
+for kind in KINDS:
     print(f'{kind}: {classes[kind]}')
-few = [kind for kind in classes if classes[kind] < LEAST]
+few = [kind for kind in KINDS if classes[kind] < LEAST]
 if few: print('too few:', ', '.join(few))
 if len(told) != COUNT: print('lines:', len(told), 'of', COUNT)
 print(f'{COUNT - failed} passed, {failed} failed')

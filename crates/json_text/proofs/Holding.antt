@@ -320,3 +320,27 @@ module _ (d : Decoded) {name : Bytes} {i : ℕ} (C : Compares (d .len) (d .bytes
 
 pub name-is : (name : Bytes) {held : Option Bytes} {place : Next} {t : Text} {r : Bool} → Holds held place t → r ≡ isText (content (t .decoded)) name → r ≡ isText held name
 name-is name H e = e ∙ ap (λ (h : Option Bytes). isText h name) (H .held-is)
+
+-- ---- for callers: what a decoded string holds, in its fields
+
+pub record Kept (d : Decoded) (t : Bytes) : Type 0 where
+  pub short : d .long ≡ false
+  pub room : d .len ≤ 512
+  pub is : take (d .len) (d .bytes) ≡ t
+
+pub content-kept : (d : Decoded) (t : Bytes) → content d ≡ some t → Kept d t
+unfolding content
+content-kept d t e = go (d .long) (ltb 512 (d .len)) refl refl e
+  where
+    go : (u v : Bool) → d .long ≡ u → ltb 512 (d .len) ≡ v → (if u then none else if v then none else some (take (d .len) (d .bytes))) ≡ some t → Kept d t
+    go true v x y e = let z : _≡_ {A = ℕ} 0 1 = cc in absurd (omega arith)
+    go false true x y e = let z : _≡_ {A = ℕ} 0 1 = cc in absurd (omega arith)
+    go false false x y e = record { short = x; room = ltb-false 512 (d .len) y; is = cc }
+
+pub content-long : (d : Decoded) → d .long ≡ true → content d ≡ none
+unfolding content
+content-long d h = rw h
+
+pub content-short : (d : Decoded) → d .long ≡ false → d .len ≤ 512 → content d ≡ some (take (d .len) (d .bytes))
+unfolding content
+content-short d h k = rw (h, le-ltb 512 (d .len) k)

@@ -10,13 +10,15 @@ use Rattle.json_text.specs.Reader.{Reader, _>>=_, _>>_, give, fail, byte
 abbrev pub utf8Tail : Reader (Unit {0})
 utf8Tail = byteRange 0x80 0xBF
 
+-- a byte from lo to hi and one UTF8-tail
 abbrev pub thenTail : ℕ → ℕ → Reader (Unit {0})
 thenTail lo hi = byteRange lo hi >> utf8Tail
 
+-- a byte from lo to hi and two
 abbrev pub thenTails : ℕ → ℕ → Reader (Unit {0})
 thenTails lo hi = byteRange lo hi >> utf8Tail >> utf8Tail
 
--- UTF8-2, UTF8-3, UTF8-4
+-- UTF8-2 / UTF8-3 / UTF8-4 (RFC 3629, section 4)
 unfoldable pub multibyteChar : Reader (Unit {0})
 multibyteChar =
     lead 0xC2 to 0xDF then utf8Tail else
@@ -37,7 +39,7 @@ encodeUtf8 c =
     if ltb c 0x10000 then (0xE0 + c / 4096) ∷ (0x80 + c / 64 % 64) ∷ (0x80 + c % 64) ∷ [] else
     (0xF0 + c / 262144 % 8) ∷ (0x80 + c / 4096 % 64) ∷ (0x80 + c / 64 % 64) ∷ (0x80 + c % 64) ∷ []
 
--- ---- a whole text in UTF-8 (proofs/Valid.antt: a text that readJson reads is one)
+-- ---- a whole text in UTF-8 (crate json, proofs/Utf8First.antt: readJson reads no other)
 
 -- So many bytes are still due, the next of them from lo to hi; or the text is wrong.
 pub data Due : Type 0 where

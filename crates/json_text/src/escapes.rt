@@ -33,6 +33,7 @@ fn hex_digit(b: u16) -> u32
     16
 }
 
+// Four hexadecimal digits.
 fn read_hex(s: &[u8], from: usize) -> Point
     ensures { λ r. ⌜ r ≡ pointOf (readAt hex4 (now (s .entry)) from) ⌝ }
 {

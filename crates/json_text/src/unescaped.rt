@@ -8,6 +8,7 @@ ghost use Rattle.json_text.specs.Utf8.{thenTail, thenTails, multibyteCha
 ghost use Rattle.json_text.specs.Lexical.{unescaped};
 ghost use Rattle.json_text.specs.Places.{readAt, placeOf};
 
+// A byte from lo to hi.
 fn skip_range(s: &[u8], from: usize, lo: u8, hi: u8) -> Next
     ensures { λ r. ⌜ r ≡ placeOf (readAt (byteRange lo hi) (now (s .entry)) from) ⌝ }
 {
@@ -23,6 +24,7 @@ fn skip_range(s: &[u8], from: usize, lo: u8, hi: u8) -> Next
     Next::Bad
 }
 
+// A byte from lo to hi, and one from 0x80 to 0xBF.
 fn skip_with_tail(s: &[u8], from: usize, lo: u8, hi: u8) -> Next
     ensures { λ r. ⌜ r ≡ placeOf (readAt (thenTail lo hi) (now (s .entry)) from) ⌝ }
 {
@@ -32,6 +34,7 @@ fn skip_with_tail(s: &[u8], from: usize, lo: u8, hi: u8) -> Next
     skip_range(s, i, 0x80, 0xBF)
 }
 
+// A byte from lo to hi, and two from 0x80 to 0xBF.
 fn skip_with_tails(s: &[u8], from: usize, lo: u8, hi: u8) -> Next
     ensures { λ r. ⌜ r ≡ placeOf (readAt (thenTails lo hi) (now (s .entry)) from) ⌝ }
 {
