@@ -1,18 +1,16 @@
 -- What a caller of `fetching` and `last_location` knows, by cases. Assumes nothing.
-use mathlib.Core.Path.{_≡_, refl, sym, ap, _∙_}
-use mathlib.Core.Bool.{Bool, true, false, not}
-use mathlib.Core.List.{List, [], _∷_, map, head?}
+use mathlib.Core.Path.{_≡_, refl, sym, _∙_}
+use mathlib.Core.List.{[]}
 use mathlib.Core.Option.{Option, none, some}
 use Prim.Native.Nat.{ℕ, _-_, _≤_}
 use native.Mathlib.Omega.{arith}
 use lib.ListN.{length, take, drop}
-use Rattle.ascii.specs.Ascii.{Bytes, if_then_else_, _>>=_, isNone, all, beginsWith, lastOf}
-use Rattle.origin.specs.Origin.{httpsUrl}
+use Rattle.ascii.specs.Ascii.{Bytes, all, beginsWith, lastOf}
 use Rattle.refusals.specs.declared.Refusal.{Refusal}
-use Rattle.refusals.specs.declared.Refusal.the-variants.{BadRecord, OpenRedirect, BadLocation}
-use Rattle.fetch_record.specs.Record.{Redirect, Answer, Fetched, readEnd, readItems, readRecord, location, hopRefusal, lastLocation}
+use Rattle.refusals.specs.declared.Refusal.the-variants.{BadRecord}
+use Rattle.fetch_record.specs.Record.{Answer, Fetched, readEnd, readItems, readRecord, hopRefusal, lastLocation}
 use Rattle.fetch_record.specs.Fetching.{Fetching, refused, fetch, answered, afterHops, byRecord, fetching}
-use Rattle.fetch_record.specs.Meaning.{answerOf, outcomeOf, target, partIn, TargetPlaced, no-target, target-in, Targets}
+use Rattle.fetch_record.specs.Meaning.{answerOf, outcomeOf, target, partIn, TargetPlaced, target-in, Targets}
 use Rattle.fetch_record.specs.declared.item.Answer.{Answer as AnswerItem}
 use Rattle.fetch_record.specs.declared.Outcome.{Outcome}
 use Rattle.fetch_record.specs.declared.Outcome.the-variants.{Refused, Fetch, Answered as Settled}

@@ -1,26 +1,26 @@
 -- Hop by hop, refusal 5 before 6; what record and text settle; the last Location. Assumes nothing.
 use mathlib.Core.Path.{_≡_, refl, sym, ap, _∙_}
-use mathlib.Core.Bool.{Bool, true, false, _&&_, not, and-eq-true-iff, and-true}
-use mathlib.Core.List.{List, [], _∷_, _++_, map, head?}
+use mathlib.Core.Bool.{Bool, true, false, not, and-eq-true-iff, and-true}
+use mathlib.Core.List.{List, [], _∷_, _++_}
 use mathlib.Core.Logic.{inl, inr}
-use mathlib.Core.Option.{Option, none, some}
+use mathlib.Core.Option.{none, some}
 use Prim.Native.Nat.{ℕ, zero, suc, _+_, _-_, _*_, _≤_, _<_}
 use native.Mathlib.Nat.{eq-or-lt-of-le}
 use native.Mathlib.Omega.{arith}
 use lib.ListN.{length, take, drop, length-append}
 use lib.Seq.{drop-at}
 use borrow.Author.Tests.{leb-true}
-use Rattle.ascii.specs.Ascii.{Bytes, if_then_else_, _>>=_, _orElse_, isNone, all, lastOf}
-use Rattle.origin.specs.Origin.{Authority, httpsUrl}
+use Rattle.ascii.specs.Ascii.{Bytes, if_then_else_, _orElse_, isNone, all, lastOf}
+use Rattle.origin.specs.Origin.{httpsUrl}
 use Rattle.origin.specs.Parts.{Reads, authorityIn}
 use Rattle.origin.specs.declared.Parts.{Parts}
 use Rattle.origin.specs.declared.Reading.{Reading}
 use Rattle.origin.specs.declared.Reading.the-variants.{Found, Malformed as NoUrl}
 use Rattle.refusals.specs.declared.Refusal.{Refusal}
 use Rattle.refusals.specs.declared.Refusal.the-variants.{BadRecord, OpenRedirect, BadLocation}
-use Rattle.fetch_record.specs.Record.{Redirect, Fetched, inText, location, lastLocation, readRecord, hopRefusal}
-use Rattle.fetch_record.specs.Fetching.{Fetching, refused, fetch, answered, afterHops, byRecord, fetching}
-use Rattle.fetch_record.specs.Meaning.{redirectOf, answerOf, redirectIn, redirectAt, redirectsIn, Placed, layoutRead, LayoutPlaced, without, with-answer, Lays, hopsRead, afterHopsOf, outcomeOf, target, partIn, TargetPlaced, no-target, target-in, Targets}
+use Rattle.fetch_record.specs.Record.{Redirect, inText, location, lastLocation, readRecord, hopRefusal}
+use Rattle.fetch_record.specs.Fetching.{afterHops, byRecord, fetching}
+use Rattle.fetch_record.specs.Meaning.{redirectOf, answerOf, redirectIn, redirectAt, redirectsIn, Placed, layoutRead, LayoutPlaced, without, with-answer, Lays, hopsRead, afterHopsOf, outcomeOf, target, partIn, no-target, target-in, Targets}
 use Rattle.fetch_record.specs.declared.item.Redirect.{Redirect as RedirectItem}
 use Rattle.fetch_record.specs.declared.item.Answer.{Answer as AnswerItem}
 use Rattle.fetch_record.specs.declared.Layout.{Layout}
