@@ -1,16 +1,14 @@
 -- What a caller of `fetching` and `last_location` knows, by cases. Assumes nothing.
 use mathlib.Core.Path.{_≡_, refl, sym, _∙_}
-use mathlib.Core.List.{List, [], _∷_}
+use mathlib.Core.List.{[]}
 use mathlib.Core.Option.{Option, none, some}
-use mathlib.Core.Bool.{Bool, true, false, not}
 use Prim.Native.Nat.{ℕ, _-_, _≤_}
 use native.Mathlib.Omega.{arith}
 use lib.ListN.{length, take, drop}
-use Rattle.ascii.specs.Ascii.{Bytes, if_then_else_, isNone, all, beginsWith, lastOf}
-use Rattle.origin.specs.Origin.{httpsUrl}
+use Rattle.ascii.specs.Ascii.{Bytes, all, beginsWith, lastOf}
 use Rattle.refusals.specs.declared.Refusal.{Refusal}
-use Rattle.refusals.specs.declared.Refusal.the-variants.{BadRecord, OpenRedirect, BadLocation}
-use Rattle.fetch_record.specs.Record.{Redirect, Answer, Fetched, location, readEnd, readItems, readRecord, hopRefusal, lastLocation}
+use Rattle.refusals.specs.declared.Refusal.the-variants.{BadRecord}
+use Rattle.fetch_record.specs.Record.{Answer, Fetched, readEnd, readItems, readRecord, hopRefusal, lastLocation}
 use Rattle.fetch_record.specs.Fetching.{Fetching, refused, fetch, answered, afterHops, byRecord, fetching}
 use Rattle.fetch_record.specs.Meaning.{answerOf, outcomeOf, target, partIn, TargetPlaced, target-in, Targets}
 use Rattle.fetch_record.specs.declared.item.Answer.{Answer as AnswerItem}
@@ -18,6 +16,7 @@ use Rattle.fetch_record.specs.declared.Outcome.{Outcome}
 use Rattle.fetch_record.specs.declared.Outcome.the-variants.{Refused, Fetch, Answered as Settled}
 use Rattle.fetch_record.specs.declared.Target.{Target}
 use Rattle.fetch_record.specs.declared.Target.the-variants.{NoRedirect, Part}
+use Rattle.fetch_record.proofs.HopLaws.{HopRefusal, by-five, by-six, hop-refusals}
 
 -- ---- the definition by cases
 
@@ -138,22 +137,7 @@ pub target-bad : (items lent : Bytes) → readRecord items lent ≡ none → tar
 unfolding target
 target-bad items lent e = rw e
 
--- a hop is refused by 5 or 6
-pub data HopRefusal : Refusal → Type 0 where
-  by-five : HopRefusal OpenRedirect
-  by-six : HopRefusal BadLocation
-
-pub hop-refusals : (lent : Bytes) (hs : List Redirect) (r : Refusal) → hopRefusal lent hs ≡ some r → HopRefusal r
-unfolding hopRefusal
-hop-refusals lent [] r e = let z : _≡_ {A = ℕ} 0 1 = cc in absurd (omega arith)
-hop-refusals lent (h ∷ hs) r e = go (not (h .authorized)) (isNone (httpsUrl (location lent h))) (hop-refusals lent hs r) e
-  where
-    go : (u v : Bool) → (hopRefusal lent hs ≡ some r → HopRefusal r)
-        → (if u then some OpenRedirect else if v then some BadLocation else hopRefusal lent hs) ≡ some r → HopRefusal r
-    go true v ih e = let z : OpenRedirect ≡ r = cc in rw (← z) by-five
-    go false true ih e = let z : BadLocation ≡ r = cc in rw (← z) by-six
-    go false false ih e = ih e
-
+-- no hop is refused by 4
 not-four : {r : Refusal} → HopRefusal r → r ≡ BadRecord → ⊥
 not-four by-five e = let z : _≡_ {A = ℕ} 0 1 = cc in omega arith
 not-four by-six e = let z : _≡_ {A = ℕ} 0 1 = cc in omega arith
