@@ -1,0 +1,4 @@
+pub mod StageLaws
+pub mod EntrySteps
+pub mod ListLaws
+pub mod Laws
