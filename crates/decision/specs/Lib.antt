@@ -1,3 +1,4 @@
 pub mod Answer
 pub mod Decide
 pub mod Location
+pub mod SameKept

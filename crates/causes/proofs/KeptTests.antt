@@ -1,0 +1,77 @@
+-- What is known of a kept entry: none of the four causes holds. Assumes nothing.
+use mathlib.Core.Path.{_≡_, refl, sym, _∙_}
+use mathlib.Core.List.{List, [], _∷_, map}
+use mathlib.Core.Bool.{Bool, true, false, _&&_, _||_, not, and-eq-true-iff}
+use mathlib.Core.Option.{Option, none, some}
+use Prim.Native.Nat.{ℕ}
+use native.Mathlib.Omega.{arith}
+use lib.ListN.{length}
+use lib.Dec.{ltb}
+use Rattle.ascii.specs.Ascii.{Bytes, if_then_else_, isNone, all, filterBy}
+use Rattle.origin.specs.Origin.{beginsHttps, beginsNative, webOrigin, isFacet}
+use Rattle.causes.specs.Causes.{Cause, isOtherLabel, cause, kept}
+
+-- the test of keeping
+unfoldable pub isKept : Bytes → Bytes → Bytes → Bool
+isKept appid table e = isNone (cause appid table e)
+
+pub record Passes (appid table e : Bytes) : Type 0 where
+  pub short : ltb 512 (length e) ≡ false
+  pub scheme : (beginsHttps e || beginsNative e) ≡ true
+  pub facet : isFacet e ≡ true
+  pub label : isOtherLabel appid table (webOrigin e) ≡ false
+
+-- a chain of causes that ends in none: the first test fails, and the others too
+peel : (t : Bool) (a : Cause) (r : Option Cause) → isNone (if t then some a else r) ≡ true → (t ≡ false) × (isNone r ≡ true)
+peel true a r e = let z : _≡_ {A = ℕ} 0 1 = cc in absurd (omega arith)
+peel false a r e = (refl, e)
+
+not-false : (b : Bool) → not b ≡ false → b ≡ true
+not-false true e = refl
+not-false false e = sym e
+
+module _ (appid table e : Bytes) where
+  pub kept-passes : isKept appid table e ≡ true → Passes appid table e
+  unfolding isKept cause
+  kept-passes h =
+      let h1 = peel (ltb 512 (length e)) _ _ h in
+      let h2 = peel (not (beginsHttps e || beginsNative e)) _ _ (h1 .1) in
+      let h3 = peel (not (isFacet e)) _ _ (h2 .1) in
+      let h4 = peel (isOtherLabel appid table (webOrigin e)) _ _ (h3 .1) in
+      record { short = h1 .0; scheme = not-false (beginsHttps e || beginsNative e) (h2 .0); facet = not-false (isFacet e) (h3 .0); label = h4 .0 }
+
+  pub passes-kept : Passes appid table e → isKept appid table e ≡ true
+  unfolding isKept cause
+  passes-kept P = rw (P .short, P .scheme, P .facet, P .label)
+
+-- ---- lists
+
+pub filter-all : {A : Type 0} (p : A → Bool) (l : List A) → all p (filterBy p l) ≡ true
+unfolding all filterBy
+filter-all p [] = refl
+filter-all p (x ∷ l) = go (p x) refl (filter-all p l)
+  where
+    go : (u : Bool) → p x ≡ u → all p (filterBy p l) ≡ true → all p (if u then x ∷ filterBy p l else filterBy p l) ≡ true
+    go true h r = rw (h, r)
+    go false h r = r
+
+-- every kept entry is one
+pub kept-each : (appid table : Bytes) (es : List Bytes) → all (isKept appid table) (kept appid table es) ≡ true
+unfolding kept isKept
+kept-each appid table es = filter-all (λ e. isNone (cause appid table e)) es
+
+pub filter-id : {A : Type 0} (p : A → Bool) (l : List A) → all p l ≡ true → filterBy p l ≡ l
+unfolding all filterBy
+filter-id p [] h = refl
+filter-id p (x ∷ l) h = let q = and-eq-true-iff (p x) (all p l) .0 h in rw (q .0, filter-id p l (q .1))
+
+-- where every entry is one, all are kept
+pub kept-id : (appid table : Bytes) (es : List Bytes) → all (isKept appid table) es ≡ true → kept appid table es ≡ es
+unfolding kept isKept
+kept-id appid table es h = filter-id (λ e. isNone (cause appid table e)) es h
+
+-- a test of what is made of each element
+pub all-mapped : {A B : Type 0} (f : A → B) (p : A → Bool) (q : B → Bool) → ((x : A) → p x ≡ true → q (f x) ≡ true) → (l : List A) → all p l ≡ true → all q (map f l) ≡ true
+unfolding all
+all-mapped f p q h [] e = refl
+all-mapped f p q h (x ∷ l) e = let k = and-eq-true-iff (p x) (all p l) .0 e in rw (h x (k .0), all-mapped f p q h l (k .1))

@@ -1,0 +1,2 @@
+pub mod KeptTests
+pub mod KeptNormal

@@ -1,0 +1,3 @@
+pub mod Padding
+pub mod Rule4
+pub mod MatchNormal
