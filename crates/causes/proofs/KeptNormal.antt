@@ -9,6 +9,7 @@ use lib.ListN.{length}
 use lib.Dec.{ltb}
 use borrow.Author.Tests.{leb-false, lt-leb}
 use Rattle.ascii.specs.Ascii.{Bytes, isNone, all, lower, sameNoCase}
+use Rattle.ascii.proofs.ListLaws.{all-mapped}
 use Rattle.suffix.specs.Suffix.{privateLabel}
 use Rattle.suffix.proofs.Case.{private-label}
 use Rattle.origin.specs.Origin.{Authority, beginsHttps, beginsNative, webOrigin, normalForm}
@@ -17,7 +18,7 @@ use Rattle.origin.proofs.Origins.{web-begins}
 use Rattle.origin.proofs.NormalForms.{own-normal, normal-short, lower-twice, origin-normal, host-normal, facet-normal}
 use Rattle.origin.proofs.PlainBytes.{facet-plain}
 use Rattle.causes.specs.Causes.{appLabel, labelsAgree, isOtherLabel, cause, kept}
-use Rattle.causes.proofs.KeptTests.{isKept, Passes, kept-passes, passes-kept, kept-each, kept-id, all-mapped}
+use Rattle.causes.proofs.KeptTests.{isKept, Passes, kept-passes, passes-kept, kept-each, kept-id}
 
 -- ---- cause 4 does not see the normal form
 
@@ -64,7 +65,7 @@ cause-normal appid table e h = is-none (cause appid table (normalForm e)) (kept-
 
 module _ (appid table : Bytes) (es : List Bytes) where
   normals-kept : all (isKept appid table) (map normalForm (kept appid table es)) ≡ true
-  normals-kept = all-mapped normalForm (isKept appid table) (isKept appid table) (kept-normal appid table) (kept appid table es) (kept-each appid table es)
+  normals-kept = all-mapped (isKept appid table) (isKept appid table) normalForm (kept-normal appid table) (kept appid table es) (kept-each appid table es)
 
   -- normal forms of kept entries are kept, all of them and in order
   pub kept-normals : kept appid table (map normalForm (kept appid table es)) ≡ map normalForm (kept appid table es)
@@ -72,4 +73,4 @@ module _ (appid table : Bytes) (es : List Bytes) where
 
   -- nothing kept ever needs an escape
   pub normals-plain : all (all isPlainByte) (map normalForm (kept appid table es)) ≡ true
-  normals-plain = all-mapped normalForm (isKept appid table) (all isPlainByte) (λ e h. facet-plain e (kept-passes appid table e h .facet)) (kept appid table es) (kept-each appid table es)
+  normals-plain = all-mapped (isKept appid table) (all isPlainByte) normalForm (λ e h. facet-plain e (kept-passes appid table e h .facet)) (kept appid table es) (kept-each appid table es)

@@ -1,13 +1,14 @@
 -- What is known of a kept entry: none of the four causes holds. Assumes nothing.
-use mathlib.Core.Path.{_≡_, refl, sym, _∙_}
-use mathlib.Core.List.{List, [], _∷_, map}
-use mathlib.Core.Bool.{Bool, true, false, _&&_, _||_, not, and-eq-true-iff}
+use mathlib.Core.Path.{_≡_, refl, sym}
+use mathlib.Core.List.{List}
+use mathlib.Core.Bool.{Bool, true, false, _||_, not}
 use mathlib.Core.Option.{Option, none, some}
 use Prim.Native.Nat.{ℕ}
 use native.Mathlib.Omega.{arith}
 use lib.ListN.{length}
 use lib.Dec.{ltb}
-use Rattle.ascii.specs.Ascii.{Bytes, if_then_else_, isNone, all, filterBy}
+use Rattle.ascii.specs.Ascii.{Bytes, if_then_else_, isNone, all}
+use Rattle.ascii.proofs.ListLaws.{filter-all, filter-id}
 use Rattle.origin.specs.Origin.{beginsHttps, beginsNative, webOrigin, isFacet}
 use Rattle.causes.specs.Causes.{Cause, isOtherLabel, cause, kept}
 
@@ -46,32 +47,13 @@ module _ (appid table e : Bytes) where
 
 -- ---- lists
 
-pub filter-all : {A : Type 0} (p : A → Bool) (l : List A) → all p (filterBy p l) ≡ true
-unfolding all filterBy
-filter-all p [] = refl
-filter-all p (x ∷ l) = go (p x) refl (filter-all p l)
-  where
-    go : (u : Bool) → p x ≡ u → all p (filterBy p l) ≡ true → all p (if u then x ∷ filterBy p l else filterBy p l) ≡ true
-    go true h r = rw (h, r)
-    go false h r = r
+module _ (appid table : Bytes) (es : List Bytes) where
+  -- every kept entry is one
+  pub kept-each : all (isKept appid table) (kept appid table es) ≡ true
+  unfolding kept isKept
+  kept-each = filter-all (λ e. isNone (cause appid table e)) es
 
--- every kept entry is one
-pub kept-each : (appid table : Bytes) (es : List Bytes) → all (isKept appid table) (kept appid table es) ≡ true
-unfolding kept isKept
-kept-each appid table es = filter-all (λ e. isNone (cause appid table e)) es
-
-pub filter-id : {A : Type 0} (p : A → Bool) (l : List A) → all p l ≡ true → filterBy p l ≡ l
-unfolding all filterBy
-filter-id p [] h = refl
-filter-id p (x ∷ l) h = let q = and-eq-true-iff (p x) (all p l) .0 h in rw (q .0, filter-id p l (q .1))
-
--- where every entry is one, all are kept
-pub kept-id : (appid table : Bytes) (es : List Bytes) → all (isKept appid table) es ≡ true → kept appid table es ≡ es
-unfolding kept isKept
-kept-id appid table es h = filter-id (λ e. isNone (cause appid table e)) es h
-
--- a test of what is made of each element
-pub all-mapped : {A B : Type 0} (f : A → B) (p : A → Bool) (q : B → Bool) → ((x : A) → p x ≡ true → q (f x) ≡ true) → (l : List A) → all p l ≡ true → all q (map f l) ≡ true
-unfolding all
-all-mapped f p q h [] e = refl
-all-mapped f p q h (x ∷ l) e = let k = and-eq-true-iff (p x) (all p l) .0 e in rw (h x (k .0), all-mapped f p q h l (k .1))
+  -- where every entry is one, all are kept
+  pub kept-id : all (isKept appid table) es ≡ true → kept appid table es ≡ es
+  unfolding kept isKept
+  kept-id h = filter-id (λ e. isNone (cause appid table e)) es h

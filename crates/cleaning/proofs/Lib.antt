@@ -1,2 +1,3 @@
 pub mod Padding
 pub mod TallyTotal
+pub mod CleanLength

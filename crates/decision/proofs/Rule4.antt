@@ -11,7 +11,7 @@ use Rattle.suffix.specs.Suffix.{privateLabel}
 use Rattle.suffix.proofs.Case.{private-label}
 use Rattle.origin.specs.Origin.{Authority, beginsHttps, httpsUrl, webOrigin, isFacet}
 use Rattle.origin.specs.Matching.{sameHost, facetMatches}
-use Rattle.origin.proofs.Origins.{same-eq}
+use Rattle.ascii.proofs.Compare.{same-eq}
 use Rattle.refusals.specs.declared.Refusal.{Refusal}
 use Rattle.trusted_list.specs.TrustedList.{entries}
 use Rattle.fetch_record.specs.Fetching.{Fetching, refused as hopRefused, fetch as mustFetch, answered, fetching}

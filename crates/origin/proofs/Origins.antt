@@ -10,6 +10,7 @@ use lib.Dec.{eqb, leb}
 use borrow.Author.Tests.{eqb-true, leb-true}
 use Rattle.ascii.specs.Ascii.{Bytes, if_then_else_, _>>=_, _when_, isNone, isEmpty, all, takeWhile, dropWhile, between, isDigit, isUpper, same, lowerByte, lower, beginsWith, beginsWithNoCase, text, value, number16}
 use Rattle.ascii.proofs.Compare.{length-lower}
+pub use Rattle.ascii.proofs.Compare.{same-eq}
 use Rattle.ascii.proofs.Scan.{while-all, while-rest, while-length}
 use Rattle.suffix.specs.Host.{isHost}
 use Rattle.origin.specs.Origin.{Authority, beginsHttps, androidPrefix, iosPrefix, isPort, readPort, isHostByte, readHost, readHttps, webOrigin, isKeyHashByte, isAndroid, isIos, beginsNative, isNative, isFacet, shownPort, isTail, httpsUrl}
@@ -19,13 +20,6 @@ use Rattle.origin.specs.Parts.{isEnd}
 
 both : (a b : Bool) → (a && b) ≡ true → (a ≡ true) × (b ≡ true)
 both a b = and-eq-true-iff a b .0
-
-pub same-eq : (s t : Bytes) → same s t ≡ true → s ≡ t
-unfolding same
-same-eq [] [] e = refl
-same-eq [] (c ∷ t) e = let z : _≡_ {A = ℕ} 0 1 = cc in absurd (omega arith)
-same-eq (b ∷ s) [] e = let z : _≡_ {A = ℕ} 0 1 = cc in absurd (omega arith)
-same-eq (b ∷ s) (c ∷ t) e = let h = both (eqb b c) (same s t) e in ap₂ _∷_ (eqb-true b c (h .0)) (same-eq s t (h .1))
 
 pub begins-split : (p s : Bytes) → beginsWith p s ≡ true → s ≡ p ++ drop (length p) s
 unfolding beginsWith

@@ -7,3 +7,4 @@ pub mod LevelLaws
 pub mod SelectLaws
 pub mod EntryLaws
 pub mod Laws
+pub mod Bound
