@@ -1,3 +1,6 @@
 pub mod Padding
 pub mod TallyTotal
 pub mod CleanLength
+pub mod RenderReads
+pub mod Rereading
+pub mod Twice

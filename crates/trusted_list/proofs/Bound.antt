@@ -11,34 +11,11 @@ use lib.Dec.{eqb, leb}
 use borrow.Author.Tests.{eqb-true}
 use Rattle.ascii.specs.Ascii.{Bytes, if_then_else_, _>>=_, _when_, isEmpty, all, isDigit, same, text, value, number16, decimal}
 use Rattle.ascii.proofs.Compare.{same-eq}
+use Rattle.ascii.proofs.OptionLaws.{Holds, holds, and-then, chained}
 use Rattle.ascii.proofs.DecimalLaws.{decimal-shortest}
 use Rattle.json.specs.Json.{Json, literal, number, string, array, object, Jsons, noItem, item, Members, noMember, member, readJson}
 use Rattle.json.proofs.Sizes.{size, itemsSize, membersSize, json-size}
 use Rattle.trusted_list.specs.TrustedList.{asObject, asArray, asString, asNumber, valuesOf, only, once, readNumber16, Version, readVersion, strings, readIds, Listing, readListing, listings, readListings, readList, isWanted, select, readBody, selected}
-
--- ---- optional values
-
-abbrev Holds : {A : Type 0} → (A → Type 0) → Option A → Type 0
-Holds P none = Unit {0}
-Holds P (some a) = P a
-
-holds : {A : Type 0} (P : A → Type 0) (o : Option A) (a : A) → Holds P o → o ≡ some a → P a
-holds P none a h e = let z : _≡_ {A = ℕ} 0 1 = cc in absurd (omega arith)
-holds P (some b) a h e = let q : b ≡ a = cc in rw (← q) h
-
-and-then : {A B : Type 0} (Q : B → Type 0) (o : Option A) (f : A → Option B) → ((a : A) → o ≡ some a → Holds Q (f a)) → Holds Q (o >>= f)
-and-then Q none f h = tt
-and-then Q (some a) f h = h a refl
-
--- of two readings, one after the other, what stands between
-pub record Chained {A B : Type 0} (o : Option A) (f : A → Option B) (b : B) : Type 0 where
-  pub between : A
-  pub before : o ≡ some between
-  pub after : f between ≡ some b
-
-pub chained : {A B : Type 0} (o : Option A) (f : A → Option B) (b : B) → (o >>= f) ≡ some b → Chained o f b
-chained none f b e = let z : _≡_ {A = ℕ} 0 1 = cc in absurd (omega arith)
-chained (some a) f b e = record { between = a; before = refl; after = e }
 
 -- ---- members by name
 

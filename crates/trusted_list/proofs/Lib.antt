@@ -8,3 +8,4 @@ pub mod SelectLaws
 pub mod EntryLaws
 pub mod Laws
 pub mod Bound
+pub mod Acceptance
