@@ -4,3 +4,4 @@ pub mod CleanLength
 pub mod RenderReads
 pub mod Rereading
 pub mod Twice
+pub mod Example
