@@ -1,16 +1,16 @@
 -- The digits that `decimal` writes, read again: a number of at most 65535 comes back, without leading zero, and no shorter text of digits
 -- has its value. Assumes nothing.
 use mathlib.Core.Path.{_≡_, refl, sym, ap, _∙_}
-use mathlib.Core.List.{List, [], _∷_, _++_}
-use mathlib.Core.Bool.{Bool, true, false, _&&_, not, and-eq-true-iff}
-use mathlib.Core.Option.{Option, none, some}
+use mathlib.Core.List.{[], _∷_, _++_}
+use mathlib.Core.Bool.{Bool, true, false, and-eq-true-iff}
+use mathlib.Core.Option.{some}
 use Prim.Native.Nat.{ℕ, zero, suc, _+_, _-_, _*_, _/_, _%_, _^_, _≤_, _<_, max}
 use native.Mathlib.Nat.{le-trans, le-of-eq, mul-le-mul-right, mul-assoc, mul-one, one-mul, pow-zero, pow-succ'}
 use native.Mathlib.Omega.{arith}
 use lib.ListN.{length, length-append}
-use lib.Dec.{leb, ltb}
+use lib.Dec.{ltb}
 use borrow.Author.Tests.{leb-true, leb-false, le-leb}
-use Rattle.ascii.specs.Ascii.{Bytes, if_then_else_, _when_, isEmpty, all, isDigit, valueFrom, value, number16, decimalUpTo, decimal}
+use Rattle.ascii.specs.Ascii.{Bytes, if_then_else_, isEmpty, all, isDigit, valueFrom, value, number16, decimalUpTo, decimal}
 use Rattle.ascii.proofs.NumberLaws.{digit-between, digit-in}
 use Rattle.ascii.proofs.ListLaws.{all-append}
 

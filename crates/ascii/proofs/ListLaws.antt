@@ -1,7 +1,7 @@
 -- Tests over whole lists. Assumes nothing.
 use mathlib.Core.Path.{_≡_, refl}
 use mathlib.Core.List.{List, [], _∷_, _++_, map}
-use mathlib.Core.Bool.{Bool, true, false, _&&_, and-eq-true-iff}
+use mathlib.Core.Bool.{Bool, true, false, and-eq-true-iff}
 use Rattle.ascii.specs.Ascii.{if_then_else_, all, filterBy}
 
 module _ {A : Type 0} (p : A → Bool) where

@@ -1,24 +1,22 @@
 -- The normal form of a kept entry is kept: what cleaning writes is kept when it is read again. Assumes nothing.
-use mathlib.Core.Path.{_≡_, refl, sym, ap, _∙_}
-use mathlib.Core.List.{List, [], _∷_, map}
-use mathlib.Core.Bool.{Bool, true, false, _||_, not}
+use mathlib.Core.Path.{_≡_, refl, ap, _∙_}
+use mathlib.Core.List.{List, map}
+use mathlib.Core.Bool.{true}
 use mathlib.Core.Option.{Option, none, some, Option·map}
-use Prim.Native.Nat.{ℕ, _≤_, _<_}
+use Prim.Native.Nat.{ℕ, _<_}
 use native.Mathlib.Omega.{arith}
 use lib.ListN.{length}
-use lib.Dec.{ltb}
 use borrow.Author.Tests.{leb-false, lt-leb}
 use Rattle.ascii.specs.Ascii.{Bytes, isNone, all, lower, sameNoCase}
 use Rattle.ascii.proofs.ListLaws.{all-mapped}
-use Rattle.suffix.specs.Suffix.{privateLabel}
 use Rattle.suffix.proofs.Case.{private-label}
-use Rattle.origin.specs.Origin.{Authority, beginsHttps, beginsNative, webOrigin, normalForm}
+use Rattle.origin.specs.Origin.{Authority, webOrigin, normalForm}
 use Rattle.origin.specs.Normals.{normalAuthority, isPlainByte}
 use Rattle.origin.proofs.Origins.{web-begins}
 use Rattle.origin.proofs.NormalForms.{own-normal, normal-short, lower-twice, origin-normal, host-normal, facet-normal}
 use Rattle.origin.proofs.PlainBytes.{facet-plain}
-use Rattle.causes.specs.Causes.{appLabel, labelsAgree, isOtherLabel, cause, kept}
-use Rattle.causes.proofs.KeptTests.{isKept, Passes, kept-passes, passes-kept, kept-each, kept-id}
+use Rattle.causes.specs.Causes.{labelsAgree, isOtherLabel, cause, kept}
+use Rattle.causes.proofs.KeptTests.{isKept, kept-passes, passes-kept, kept-each, kept-id}
 
 -- ---- cause 4 does not see the normal form
 

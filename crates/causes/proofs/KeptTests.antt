@@ -1,12 +1,13 @@
 -- What is known of a kept entry: none of the four causes holds. Assumes nothing.
-use mathlib.Core.Path.{_≡_, refl, sym}
+use mathlib.Core.Path.{_≡_, refl}
 use mathlib.Core.List.{List}
 use mathlib.Core.Bool.{Bool, true, false, _||_, not}
-use mathlib.Core.Option.{Option, none, some}
+use mathlib.Core.Option.{Option, some}
 use Prim.Native.Nat.{ℕ}
 use native.Mathlib.Omega.{arith}
 use lib.ListN.{length}
 use lib.Dec.{ltb}
+use borrow.Author.Tests.{not-false}
 use Rattle.ascii.specs.Ascii.{Bytes, if_then_else_, isNone, all}
 use Rattle.ascii.proofs.ListLaws.{filter-all, filter-id}
 use Rattle.origin.specs.Origin.{beginsHttps, beginsNative, webOrigin, isFacet}
@@ -26,10 +27,6 @@ pub record Passes (appid table e : Bytes) : Type 0 where
 peel : (t : Bool) (a : Cause) (r : Option Cause) → isNone (if t then some a else r) ≡ true → (t ≡ false) × (isNone r ≡ true)
 peel true a r e = let z : _≡_ {A = ℕ} 0 1 = cc in absurd (omega arith)
 peel false a r e = (refl, e)
-
-not-false : (b : Bool) → not b ≡ false → b ≡ true
-not-false true e = refl
-not-false false e = sym e
 
 module _ (appid table e : Bytes) where
   pub kept-passes : isKept appid table e ≡ true → Passes appid table e

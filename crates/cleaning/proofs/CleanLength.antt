@@ -1,12 +1,12 @@
 -- The cleaned list is no longer than the body that it comes from, so refusal 9 never meets it. Assumes nothing.
-use mathlib.Core.Path.{_≡_, refl, ap}
-use mathlib.Core.List.{List, [], _∷_, _++_, map}
+use mathlib.Core.Path.{_≡_, refl}
+use mathlib.Core.List.{List, [], _∷_, map}
 use mathlib.Core.Bool.{Bool, true, false}
-use mathlib.Core.Option.{Option, none, some, Option·getD}
-use Prim.Native.Nat.{ℕ, suc, _+_, _≤_, max}
+use mathlib.Core.Option.{some}
+use Prim.Native.Nat.{ℕ, _+_, _≤_}
 use native.Mathlib.Omega.{arith}
 use lib.ListN.{length, length-append}
-use Rattle.ascii.specs.Ascii.{Bytes, if_then_else_, isNone, filterBy, text, prefixed, joinWith, decimal}
+use Rattle.ascii.specs.Ascii.{Bytes, if_then_else_, isNone, filterBy, text, prefixed, joinWith}
 use Rattle.origin.specs.Origin.{normalForm}
 use Rattle.origin.proofs.NormalForms.{normal-short}
 use Rattle.trusted_list.specs.TrustedList.{selected, entries}

@@ -1,6 +1,6 @@
 -- Document 01's example of cleaning, by computation ("The list", last paragraphs).
 use mathlib.Core.Path.{_≡_, refl}
-use mathlib.Core.Option.{Option, none, some}
+use mathlib.Core.Option.{none}
 use Prim.Native.Nat.{_≤_}
 use lib.ListN.{length}
 use borrow.Author.Tests.{le-ltb}

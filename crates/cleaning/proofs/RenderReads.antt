@@ -1,22 +1,21 @@
 -- The list as cleaning writes it, read again: the tree that was meant. Assumes nothing.
 use mathlib.Core.Path.{_≡_, refl, sym, ap, _∙_}
-use mathlib.Core.List.{List, [], _∷_, _++_, map, append-assoc, append-nil}
-use mathlib.Core.Bool.{Bool, true, false, _&&_, not, and-eq-true-iff}
-use mathlib.Core.Option.{Option, none, some}
-use Prim.Native.Nat.{ℕ, zero, suc, _+_, _≤_, _<_}
+use mathlib.Core.List.{List, [], _∷_, _++_, map, append-assoc}
+use mathlib.Core.Bool.{Bool, true, false, and-eq-true-iff}
+use mathlib.Core.Option.{some}
+use Prim.Native.Nat.{ℕ, zero, suc, _≤_}
 use native.Mathlib.Nat.{le-of-suc-le-suc, not-suc-le-zero}
 use native.Mathlib.Omega.{arith}
 use lib.ListN.{length, length-append}
-use lib.Dec.{eqb}
 use borrow.Author.Tests.{ne-eqb}
-use Rattle.ascii.specs.Ascii.{Bytes, if_then_else_, all, isDigit, text, prefixed, joinWith, decimal}
+use Rattle.ascii.specs.Ascii.{Bytes, all, isDigit, text, prefixed, joinWith, decimal}
 use Rattle.ascii.proofs.NumberLaws.{digit-in}
-use Rattle.ascii.proofs.DecimalLaws.{Numeral, decimal-numeral}
+use Rattle.ascii.proofs.DecimalLaws.{decimal-numeral}
 use Rattle.origin.specs.Normals.{isPlainByte}
 use Rattle.json_text.specs.Reader.{Reader, peek, countWhile}
 use Rattle.json_text.specs.Lexical.{isBlank}
-use Rattle.json.specs.Json.{Json, number, string, array, object, toItems, toMembers, items, listed, readMember, readArray, readObject, valueOf, readValue, readJson}
-use Rattle.json.proofs.Rereads.{Reads, isPlain, PlainByte, plain-byte, allPlain, NumberText, NumberEnd, string-is, array-is, object-is, number-is, member-reads, last-item, more-items, listed-none, listed-some, array-reads, object-reads, text-reads}
+use Rattle.json.specs.Json.{Json, number, string, array, object, toItems, toMembers, items, readMember, readObject, readValue, readJson}
+use Rattle.json.proofs.Rereads.{Reads, isPlain, plain-byte, allPlain, NumberText, NumberEnd, string-is, array-is, object-is, number-is, member-reads, last-item, more-items, listed-none, listed-some, array-reads, object-reads, text-reads}
 use Rattle.cleaning.specs.Clean.{quoted, render}
 
 -- ---- plain bytes and numbers

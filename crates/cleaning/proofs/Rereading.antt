@@ -1,25 +1,22 @@
 -- The re-reading theorem: the cleaned list, read again with all other inputs equal, gives every caller the same decision. Assumes nothing
 -- of the table or the AppID.
-use mathlib.Core.Path.{_≡_, refl, sym, ap, _∙_}
+use mathlib.Core.Path.{_≡_, refl, ap, _∙_}
 use mathlib.Core.List.{List, [], _∷_, map}
-use mathlib.Core.Bool.{Bool, true, false, _&&_}
-use mathlib.Core.Option.{Option, none, some, Option·getD}
+use mathlib.Core.Bool.{true}
+use mathlib.Core.Option.{Option, some, Option·getD}
 use Prim.Native.Nat.{ℕ, _≤_}
 use native.Mathlib.Omega.{arith}
-use lib.ListN.{length}
-use lib.Dec.{eqb}
 use borrow.Author.Tests.{eq-eqb}
-use Rattle.ascii.specs.Ascii.{Bytes, if_then_else_, _>>=_, all, same, text, number16, decimal}
+use Rattle.ascii.specs.Ascii.{Bytes, all, same, decimal}
 use Rattle.ascii.proofs.DecimalLaws.{number-decimal}
 use Rattle.origin.specs.Origin.{normalForm}
 use Rattle.origin.specs.Normals.{isPlainByte}
-use Rattle.json.specs.Json.{Json, number, string, toItems, toMembers, readJson}
-use Rattle.trusted_list.specs.TrustedList.{valuesOf, once, readNumber16, Version, readVersion, strings, readIds, Listing, readListing, listings, readListings, readList, isWanted, select, readBody, selected, listRefusal, entries, Accepted}
-use Rattle.trusted_list.proofs.Acceptance.{Small, selected-small, Selects, accepted-selects, selects-accepted}
+use Rattle.json.specs.Json.{number, string, toItems, toMembers}
+use Rattle.trusted_list.specs.TrustedList.{valuesOf, once, readNumber16, readVersion, strings, readIds, readListing, listings, readListings, readList, isWanted, select, readBody, selected, entries, Accepted}
+use Rattle.trusted_list.proofs.Acceptance.{Small, selected-small, accepted-selects, selects-accepted}
 use Rattle.causes.specs.Causes.{kept}
 use Rattle.causes.proofs.KeptNormal.{kept-normals, normals-plain}
-use Rattle.decision.specs.Decide.{Stage, settled, listDue, beforeList, firstMatch, lateRefusal, byList, decide}
-use Rattle.decision.specs.SameKept.{SameKept}
+use Rattle.decision.specs.Decide.{Stage, settled, listDue, beforeList, lateRefusal, byList, decide}
 use Rattle.decision.proofs.MatchNormal.{first-normal}
 use Rattle.cleaning.specs.Clean.{render, cleanedList}
 use Rattle.cleaning.proofs.CleanLength.{clean-length}

@@ -1,7 +1,6 @@
 -- The tally counts kept entries and each of the four causes; their total is the number of entries (document 01, after the decision).
 use mathlib.Core.Path.{_≡_, refl}
 use mathlib.Core.List.{List, [], _∷_}
-use mathlib.Core.Bool.{Bool, true, false}
 use mathlib.Core.Option.{Option, none, some}
 use Prim.Native.Nat.{ℕ, suc, _+_}
 use native.Mathlib.Omega.{arith}
@@ -12,7 +11,7 @@ use Rattle.refusals.specs.declared.Refusal.{Refusal}
 use Rattle.trusted_list.specs.TrustedList.{entries}
 use Rattle.causes.specs.Causes.{Cause, tooLong, otherScheme, notFacet, otherLabel, cause}
 use Rattle.cleaning.specs.Clean.{cleanRefusal}
-use Rattle.cleaning.specs.Tally.{causeNumber, Counts, countOf, counts, Tally, notTallied, tallied, orTally, tally}
+use Rattle.cleaning.specs.Tally.{causeNumber, Counts, countOf, counts, tallied, orTally, tally}
 
 abbrev pub total : Counts → ℕ
 total c = c .kept + c .tooLong + c .otherScheme + c .notFacet + c .otherLabel

@@ -1,7 +1,7 @@
 -- The place of the first matching entry is the same among normal forms. Assumes nothing.
 use mathlib.Core.Path.{_≡_, refl}
 use mathlib.Core.List.{List, [], _∷_, map}
-use Rattle.ascii.specs.Ascii.{Bytes, if_then_else_, _>>=_}
+use Rattle.ascii.specs.Ascii.{Bytes}
 use Rattle.origin.specs.Origin.{normalForm}
 use Rattle.origin.proofs.NormalForms.{match-normal}
 use Rattle.decision.specs.Decide.{firstMatch}

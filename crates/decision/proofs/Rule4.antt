@@ -2,10 +2,11 @@
 -- to ASCII case ("allowed by a list means allowed by rule 4", document 01, "The list"). Assumes nothing.
 use mathlib.Core.Path.{_≡_, refl, sym, ap, _∙_}
 use mathlib.Core.List.{List, [], _∷_}
-use mathlib.Core.Bool.{Bool, true, false, _&&_, _||_, not, and-eq-true-iff}
+use mathlib.Core.Bool.{Bool, true, false, _&&_, not, and-eq-true-iff}
 use mathlib.Core.Option.{Option, none, some, Option·map}
-use Prim.Native.Nat.{ℕ, zero, suc}
+use Prim.Native.Nat.{ℕ, suc}
 use native.Mathlib.Omega.{arith}
+use borrow.Author.Tests.{not-false}
 use Rattle.ascii.specs.Ascii.{Bytes, if_then_else_, _>>=_, isEmpty, all, same, lower, sameNoCase}
 use Rattle.suffix.specs.Suffix.{privateLabel}
 use Rattle.suffix.proofs.Case.{private-label}
@@ -17,7 +18,7 @@ use Rattle.trusted_list.specs.TrustedList.{entries}
 use Rattle.fetch_record.specs.Fetching.{Fetching, refused as hopRefused, fetch as mustFetch, answered, fetching}
 use Rattle.causes.specs.Causes.{appLabel, labelsAgree, isOtherLabel, kept}
 use Rattle.causes.proofs.KeptTests.{isKept, kept-passes, kept-each}
-use Rattle.decision.specs.Answer.{Answer, rule1, rule2, rule3, rule4, fetch, refused}
+use Rattle.decision.specs.Answer.{rule1, rule2, rule3, rule4, fetch, refused}
 use Rattle.decision.specs.Decide.{isBadAppId, Stage, settled, listDue, byFetch, beforeList, firstMatch, lateRefusal, byPlace, unless, byList, decide}
 
 -- ---- before the list nothing answers rule 4
@@ -102,10 +103,6 @@ agree-case (some k) (some l) (some m) p h = let q : lower k ≡ lower l = cc in 
 label-case : (table g h : Bytes) → sameNoCase g h ≡ true → Option·map lower (privateLabel table g) ≡ Option·map lower (privateLabel table h)
 unfolding sameNoCase
 label-case table g h e = sym (private-label table g) ∙ ap (privateLabel table) (same-eq (lower g) (lower h) e) ∙ private-label table h
-
-not-false : (b : Bool) → not b ≡ false → b ≡ true
-not-false true e = refl
-not-false false e = sym e
 
 -- ---- the theorem
 

@@ -1,13 +1,13 @@
 -- The ways through a member, and through the members of one or two names.
 use mathlib.Core.Path.{_≡_, refl, sym, ap, ap₂, _∙_}
-use mathlib.Core.Bool.{Bool, true, false, _&&_, and-eq-true-iff}
+use mathlib.Core.Bool.{Bool, true, false}
 use mathlib.Core.List.{List, [], _∷_, _++_, append-nil}
 use mathlib.Core.Option.{Option, none, some}
 use Prim.Native.Nat.{ℕ, zero, suc, _+_, _≤_, _<_}
 use native.Mathlib.Omega.{arith}
 use lib.Dec.{eqb, leb}
 use lib.ListN.{length, drop}
-use borrow.Author.Tests.{eqb-true, le-leb, leb-false}
+use borrow.Author.Tests.{le-leb, leb-false}
 use Rattle.ascii.specs.Ascii.{Bytes, if_then_else_, same, text}
 use Rattle.ascii.proofs.Compare.{same-eq}
 use Rattle.json_text.specs.Reader.{Read, got, bad, Reader, more, _>>=_, _>>_, give, oneOf, mapped}
