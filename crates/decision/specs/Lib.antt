@@ -2,3 +2,4 @@ pub mod Answer
 pub mod Decide
 pub mod Location
 pub mod Meaning
+pub mod SameKept
