@@ -5,3 +5,5 @@ pub mod RenderReads
 pub mod Rereading
 pub mod Twice
 pub mod Example
+pub mod SizeLaws
+pub mod Laws

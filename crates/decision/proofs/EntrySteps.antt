@@ -37,7 +37,7 @@ use Rattle.decision.specs.declared.Step.the-variants.{Matched, Goes, Wro
 
 -- ---- an entry that is held
 
-fit-is : (e : Bytes) → length e ≤ 512 → fit e ≡ some e
+pub fit-is : (e : Bytes) → length e ≤ 512 → fit e ≡ some e
 unfolding fit
 fit-is e l = rw (le-leb (length e) 512 l)
 
@@ -76,7 +76,7 @@ module _ (caller : Bytes) (d : Decoded) where
 
 -- ---- one entry
 
-kept-short : (appid table e : Bytes) → none ≡ cause appid table e → length e ≤ 512
+pub kept-short : (appid table e : Bytes) → none ≡ cause appid table e → length e ≤ 512
 unfolding cause
 kept-short appid table e h = go (ltb 512 (length e)) refl _ h
   where
@@ -92,14 +92,14 @@ module _ (caller table label : Bytes) (deeper : Bool) (s : Bytes) (at : ℕ) {t 
       apart e j f = unfold placeOf in (let x : Bad ≡ At j = sym b ∙ H .end-is ∙ rw f in let z : _≡_ {A = ℕ} 0 1 = cc in omega arith)
 
   module _ {j : ℕ} (p : t .end ≡ At j) where
-    end-is : (e : Bytes) (k : ℕ) → readAt readString s at ≡ got e k → j ≡ k
+    pub end-is : (e : Bytes) (k : ℕ) → readAt readString s at ≡ got e k → j ≡ k
     end-is e k f = unfold placeOf in (let x : At j ≡ At k = sym p ∙ H .end-is ∙ rw f in cc)
 
-    held-is : (e : Bytes) (k : ℕ) → readAt readString s at ≡ got e k → content (t .decoded) ≡ fit e
+    pub held-is : (e : Bytes) (k : ℕ) → readAt readString s at ≡ got e k → content (t .decoded) ≡ fit e
     held-is e k f = unfold contentOf in (H .held-is ∙ rw f)
 
     module _ {v : Verdict} (J : JudgesHeld table label deeper (content (t .decoded)) v) where
-      kept-is : v ≡ Kept → (appid e : Bytes) (k : ℕ) → Owns appid table label deeper → readAt readString s at ≡ got e k → none ≡ cause appid table e
+      pub kept-is : v ≡ Kept → (appid e : Bytes) (k : ℕ) → Owns appid table label deeper → readAt readString s at ≡ got e k → none ≡ cause appid table e
       kept-is h appid e k O f = unfold causeOf in (let x : causeOf v ≡ cause appid table e = J .is appid e O (held-is e k f) in rw h at x)
 
       module _ (h : v ≡ Kept) {m : Bool} (M : MatchesHeld caller (content (t .decoded)) m) where
@@ -169,7 +169,7 @@ pub record Spans (s : Bytes) (i j : ℕ) : Type 0 where
   pub ahead : i < j
   pub inside : i < length s
 
-string-spans : (s : Bytes) (i : ℕ) {e : Bytes} {j : ℕ} → readAt readString s i ≡ got e j → Spans s i j
+pub string-spans : (s : Bytes) (i : ℕ) {e : Bytes} {j : ℕ} → readAt readString s i ≡ got e j → Spans s i j
 unfolding readString
 string-spans s i {e} {j} r =
     let B = bound _ _ s i r in
@@ -192,7 +192,7 @@ string-spans s i {e} {j} r =
             let z : _≡_ {A = ℕ} 0 1 = cc in
             absurd (omega arith)
 
-next-ahead : (s : Bytes) (j : ℕ) {q : Next} {i : ℕ} → q ≡ nextEntry s j → q ≡ At i → j < i
+pub next-ahead : (s : Bytes) (j : ℕ) {q : Next} {i : ℕ} → q ≡ nextEntry s j → q ≡ At i → j < i
 unfolding nextEntry toNext
 next-ahead s j {q} {i} e h =
     let f = found (readAt _ s j) e h in
@@ -218,25 +218,25 @@ next-ahead s j {q} {i} e h =
             absurd (omega arith)
 
 -- what comes at a place, taken apart
-record Comes (s : Bytes) (at : ℕ) (es : List Bytes) : Type 0 where
-  entry : Bytes
-  rest : List Bytes
-  end : ℕ
-  whole : es ≡ entry ∷ rest
-  read : readAt readString s at ≡ got entry end
-  later : Coming s (nextEntry s end) rest
+pub record Comes (s : Bytes) (at : ℕ) (es : List Bytes) : Type 0 where
+  pub entry : Bytes
+  pub rest : List Bytes
+  pub end : ℕ
+  pub whole : es ≡ entry ∷ rest
+  pub read : readAt readString s at ≡ got entry end
+  pub later : Coming s (nextEntry s end) rest
 
-comes-at : {s : Bytes} {q : Next} {es : List Bytes} {at : ℕ} → Coming s q es → q ≡ At at → Comes s at es
+pub comes-at : {s : Bytes} {q : Next} {es : List Bytes} {at : ℕ} → Coming s q es → q ≡ At at → Comes s at es
 comes-at over h = let z : _≡_ {A = ℕ} 0 1 = cc in absurd (omega arith)
 comes-at {s} {at} (comes {i} {j} {e} {es} r c) h =
     let x : i ≡ at = cc in
     record { entry = e; rest = es; end = j; whole = refl; read = ap (readAt readString s) (sym x) ∙ r; later = c }
 
-nothing-comes : {s : Bytes} {q : Next} {es : List Bytes} → Coming s q es → q ≡ Bad → es ≡ []
+pub nothing-comes : {s : Bytes} {q : Next} {es : List Bytes} → Coming s q es → q ≡ Bad → es ≡ []
 nothing-comes over h = refl
 nothing-comes (comes r c) h = let z : _≡_ {A = ℕ} 0 1 = cc in absurd (omega arith)
 
-entries-at : (s : Bytes) (ids : ℕ) (T : IdsThere s ids) → entriesAt s ids ≡ T .all
+pub entries-at : (s : Bytes) (ids : ℕ) (T : IdsThere s ids) → entriesAt s ids ≡ T .all
 unfolding entriesAt
 entries-at s ids T = rw (T .is)
 
@@ -260,7 +260,7 @@ module _ (caller appid table : Bytes) (start end : ℕ) (deeper : Bool) (s : Byt
 
 -- one entry more
 module _ (caller appid table e : Bytes) (es : List Bytes) where
-  kept-step : (u : Bool) → isNone (cause appid table e) ≡ u → kept appid table (e ∷ es) ≡ (if u then e ∷ kept appid table es else kept appid table es)
+  pub kept-step : (u : Bool) → isNone (cause appid table e) ≡ u → kept appid table (e ∷ es) ≡ (if u then e ∷ kept appid table es else kept appid table es)
   unfolding kept filterBy
   kept-step u h = rw h
 

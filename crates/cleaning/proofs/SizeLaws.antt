@@ -1,0 +1,276 @@
+-- The length of the ids as they are written, entry after entry.
+use mathlib.Core.Path.{_≡_, refl, sym, ap, _∙_}
+use mathlib.Core.Bool.{Bool, true, false}
+use mathlib.Core.List.{List, [], _∷_, _++_, map}
+use mathlib.Core.Option.{Option, none, some}
+use Prim.Native.Nat.{ℕ, zero, suc, _+_, _-_, _*_, _≤_, _<_, _^_}
+use native.Mathlib.Omega.{arith}
+use mir.Syntax.{w64}
+use mir.Val.{Fits}
+use lib.Dec.{eqb, leb, ltb}
+use lib.ListN.{length, take, drop, length-append, length-take}
+use borrow.Author.Tests.{eq-eqb, ne-eqb, lt-ltb, le-ltb}
+use Rattle.ascii.specs.Ascii.{Bytes, if_then_else_, isNone, filterBy, text, prefixed, joinWith}
+use Rattle.origin.specs.Origin.{normalForm}
+use Rattle.origin.proofs.NormalForms.{normal-short}
+use Rattle.json_text.specs.Reader.{got}
+use Rattle.json_text.specs.Lexical.{readString}
+use Rattle.json_text.specs.Places.{readAt, placeOf, fit, content, contentOf, Holds}
+use Rattle.json_text.specs.declared.Next.{Next}
+use Rattle.json_text.specs.declared.Next.the-variants.{At, Bad}
+use Rattle.json_text.specs.declared.Decoded.{Decoded}
+use Rattle.json_text.specs.declared.Text.{Text}
+use Rattle.trusted_list.specs.Entries.{firstEntry, nextEntry, Coming}
+use Rattle.trusted_list.proofs.EntryLaws.{entries-come}
+use Rattle.causes.specs.Causes.{Cause, tooLong, otherScheme, notFacet, otherLabel, cause, kept}
+use Rattle.causes.specs.Owner.{Owns, JudgesHeld, causeOf}
+use Rattle.causes.specs.declared.Verdict.{Verdict}
+use Rattle.causes.specs.declared.Verdict.the-variants.{Kept, TooLong, OtherScheme, NotFacet, OtherLabel}
+use Rattle.decision.specs.Meaning.{Owned, IdsThere, entriesAt}
+use Rattle.decision.proofs.EntrySteps.{Spans, Comes, fit-is, kept-short, string-spans, next-ahead, comes-at, nothing-comes, entries-at, kept-step, end-is, held-is, kept-is}
+use Rattle.cleaning.specs.Clean.{quoted}
+use Rattle.cleaning.specs.Meaning.{names, opening, idText, idsText, HeldLength, Adds, adds-it, adds-none, SizedIs, Small, no-size, small-size}
+use Rattle.cleaning.specs.declared.Sized.{Sized}
+use Rattle.cleaning.specs.declared.Sized.the-variants.{Wrong, Goes}
+
+-- ---- what is written, id by id
+
+pub ids-more : (first : Bool) (x : Bytes) (xs : List Bytes) → idsText first (x ∷ xs) ≡ idText first x ++ idsText false xs
+unfolding idsText idText opening joinWith prefixed quoted
+ids-more true x xs = sym (append-three (text "\"") x (text "\"") (prefixed 44 (map quoted xs)))
+  where
+    append-three : (a b c d : Bytes) → (a ++ b ++ c) ++ d ≡ (a ++ b ++ c) ++ d
+    append-three a b c d = refl
+ids-more false x xs = refl
+
+pub ids-none : (first : Bool) → idsText first [] ≡ []
+unfolding idsText joinWith prefixed
+ids-none true = refl
+ids-none false = refl
+
+pub id-length : (first : Bool) (x : Bytes) → length (idText first x) ≡ (if first then length x + 2 else length x + 3)
+unfolding idText opening
+id-length true x = omega (arith, length-append x (text "\""))
+id-length false x = omega (arith, length-append x (text "\""))
+
+pub names-kept : (appid table e : Bytes) (es : List Bytes) → isNone (cause appid table e) ≡ true → names appid table (e ∷ es) ≡ normalForm e ∷ names appid table es
+unfolding names
+names-kept appid table e es h = ap (map normalForm) (kept-step e appid table e es true h)
+
+pub names-dropped : (appid table e : Bytes) (es : List Bytes) → isNone (cause appid table e) ≡ false → names appid table (e ∷ es) ≡ names appid table es
+unfolding names
+names-dropped appid table e es h = ap (map normalForm) (kept-step e appid table e es false h)
+
+-- ---- one entry
+
+module _ (d : Decoded) where
+  none-length : content d ≡ none → HeldLength (content d) 0
+  none-length c = record { small = omega arith; is = λ e l h. let x : none ≡ some e = sym c ∙ h ∙ fit-is e l in let z : _≡_ {A = ℕ} 0 1 = cc in absurd (omega arith) }
+
+  pub length-long : d .long ≡ true → HeldLength (content d) 0
+  length-long h = none-length (go h)
+    where
+      go : d .long ≡ true → content d ≡ none
+      go h = unfold content in (rw h)
+
+  module _ (h : d .long ≡ false) where
+    pub length-over : 512 < d .len → HeldLength (content d) 0
+    length-over k = none-length (go h k)
+      where
+        go : d .long ≡ false → 512 < d .len → content d ≡ none
+        go h k = unfold content in (rw (h, lt-ltb 512 (d .len) k))
+
+    module _ (k : d .len ≤ 512) (w : length (d .bytes) ≡ 512) where
+      pub length-part : d .len ≤ length (d .bytes)
+      length-part = omega arith
+
+      pub length-held : {r : ℕ} → r ≡ length (normalForm (take (d .len - 0) (drop 0 (d .bytes)))) → HeldLength (content d) r
+      length-held {r} e = record {
+        small = omega (arith, normal-short (take (d .len) (d .bytes)), length-take (d .len) (d .bytes), e ∙ ap (λ (x : Bytes). length (normalForm x)) zero-part);
+        is = λ x l f. e ∙ ap (λ (y : Bytes). length (normalForm y)) (zero-part ∙ is-entry x (sym (is-content h k) ∙ f ∙ fit-is x l));
+      }
+        where
+          zero-part : take (d .len - 0) (drop 0 (d .bytes)) ≡ take (d .len) (d .bytes)
+          zero-part = let z : d .len - 0 ≡ d .len = omega arith in rw z
+
+          is-content : d .long ≡ false → d .len ≤ 512 → content d ≡ some (take (d .len) (d .bytes))
+          is-content h k = unfold content in (rw (h, le-ltb 512 (d .len) k))
+
+          is-entry : (x : Bytes) → some (take (d .len) (d .bytes)) ≡ some x → take (d .len) (d .bytes) ≡ x
+          is-entry x f = cc
+
+pub small-wrong : Small Wrong
+small-wrong = no-size
+
+pub small-first : (j : ℕ) {held : Option Bytes} {n : ℕ} → HeldLength held n → Small (Goes j (n + 2))
+small-first j {n} L = small-size {k = n + 2} (omega (arith, L .small))
+
+pub small-later : (j : ℕ) {held : Option Bytes} {n : ℕ} → HeldLength held n → Small (Goes j (n + 3))
+small-later j {n} L = small-size {k = n + 3} (omega (arith, L .small))
+
+pub small-goes : (j k : ℕ) → k ≤ 515 → Small (Goes j k)
+small-goes j k h = small-size h
+
+module _ (first : Bool) (table label : Bytes) (deeper : Bool) (s : Bytes) (at : ℕ) {t : Text} (H : Holds (contentOf (readAt readString s at)) (placeOf (readAt readString s at)) t) where
+  pub sized-wrong : t .end ≡ Bad → SizedIs first table label deeper s at Wrong
+  sized-wrong b = record { is = λ appid e j O f. absurd (apart e j f) }
+    where
+      apart : (e : Bytes) (j : ℕ) → readAt readString s at ≡ got e j → ⊥
+      apart e j f = unfold placeOf in (let x : Bad ≡ At j = sym b ∙ H .end-is ∙ rw f in let z : _≡_ {A = ℕ} 0 1 = cc in omega arith)
+
+  module _ {j : ℕ} (p : t .end ≡ At j) {v : Verdict} (J : JudgesHeld table label deeper (content (t .decoded)) v) where
+    module _ (h : v ≡ Kept) {n : ℕ} (L : HeldLength (content (t .decoded)) n) where
+      name-length : (appid e : Bytes) (k : ℕ) → Owns appid table label deeper → readAt readString s at ≡ got e k → n ≡ length (normalForm e)
+      name-length appid e k O f =
+          L .is e (kept-short appid table e (kept-is [] table label deeper s at H p J h appid e k O f)) (held-is [] table label deeper s at H p e k f)
+
+      goes-kept : (m : ℕ) → ((e : Bytes) → n ≡ length (normalForm e) → m ≡ length (idText first (normalForm e))) → SizedIs first table label deeper s at (Goes j m)
+      goes-kept m g = record {
+        is = λ appid e k O f.
+            rw (end-is [] table label deeper s at H p e k f, g e (name-length appid e k O f)) (adds-it (ap isNone (sym (kept-is [] table label deeper s at H p J h appid e k O f))));
+      }
+
+      pub sized-first : first ≡ true → SizedIs first table label deeper s at (Goes j (n + 2))
+      sized-first t = goes-kept (n + 2) λ e w. rw (id-length first (normalForm e), t) (omega arith)
+
+      pub sized-later : first ≡ false → SizedIs first table label deeper s at (Goes j (n + 3))
+      sized-later t = goes-kept (n + 3) λ e w. rw (id-length first (normalForm e), t) (omega arith)
+
+    dropped : {c : Cause} → causeOf v ≡ some c → SizedIs first table label deeper s at (Goes j 0)
+    dropped g = record { is = λ appid e k O f. rw (end-is [] table label deeper s at H p e k f) (adds-none (ap isNone (sym (J .is appid e O (held-is [] table label deeper s at H p e k f)) ∙ g))) }
+
+    pub sized-long : v ≡ TooLong → SizedIs first table label deeper s at (Goes j 0)
+    sized-long h = dropped (go h)
+      where
+        go : v ≡ TooLong → causeOf v ≡ some tooLong
+        go h = unfold causeOf in (rw h)
+
+    pub sized-scheme : v ≡ OtherScheme → SizedIs first table label deeper s at (Goes j 0)
+    sized-scheme h = dropped (go h)
+      where
+        go : v ≡ OtherScheme → causeOf v ≡ some otherScheme
+        go h = unfold causeOf in (rw h)
+
+    pub sized-facet : v ≡ NotFacet → SizedIs first table label deeper s at (Goes j 0)
+    sized-facet h = dropped (go h)
+      where
+        go : v ≡ NotFacet → causeOf v ≡ some notFacet
+        go h = unfold causeOf in (rw h)
+
+    pub sized-label : v ≡ OtherLabel → SizedIs first table label deeper s at (Goes j 0)
+    sized-label h = dropped (go h)
+      where
+        go : v ≡ OtherLabel → causeOf v ≡ some otherLabel
+        go h = unfold causeOf in (rw h)
+
+-- ---- the loop
+
+-- the entries es are to come at a place, after ids of n bytes
+pub record Sizes (appid table : Bytes) (start end : ℕ) (deeper : Bool) (s : Bytes) (goal at n : ℕ) : Type 0 where
+  pub owned : Owned appid table start end deeper
+  pub short : length s ≤ 65536
+  pub small : n ≤ 1024 * at
+  pub inside : at < length s
+  pub es : List Bytes
+  pub coming : Coming s (At at) es
+  pub is : n + length (idsText (eqb n 0) (names appid table es)) ≡ goal
+
+no-names : (appid table : Bytes) → names appid table [] ≡ []
+unfolding names kept filterBy
+no-names appid table = refl
+
+none-length-of : (first : Bool) (appid table : Bytes) → length (idsText first (names appid table [])) ≡ 0
+none-length-of first appid table = rw (no-names appid table, ids-none first)
+
+module _ (appid table : Bytes) (start end : ℕ) (deeper : Bool) (s : Bytes) (ids : ℕ) (T : IdsThere s ids) {q : Next} (e : q ≡ firstEntry s ids) where
+  first-comes : Coming s q (entriesAt s ids)
+  first-comes = rw (e, entries-at s ids T) (entries-come s ids (T .is))
+
+  pub size-none : q ≡ Bad → 0 ≡ length (idsText true (names appid table (entriesAt s ids)))
+  size-none h = rw (nothing-comes first-comes h) (sym (none-length-of true appid table))
+
+  pub size-starts : {i : ℕ} → Owned appid table start end deeper → length s ≤ 65536 → q ≡ At i → Sizes appid table start end deeper s (length (idsText true (names appid table (entriesAt s ids)))) i 0
+  size-starts {i} O l h =
+      let C : Coming s (At i) (entriesAt s ids) = rw h at first-comes in
+      record { owned = O; short = l; small = omega arith; inside = string-spans s i (comes-at C refl .read) .inside; es = entriesAt s ids; coming = C; is = omega arith }
+
+module _ {appid table : Bytes} {start end : ℕ} {deeper : Bool} {s : Bytes} {goal at n : ℕ} (S : Sizes appid table start end deeper s goal at n)
+    {r : Sized} (I : SizedIs (eqb n 0) table (take (end - start) (drop start appid)) deeper s at r) where
+  C : Comes s at (S .es)
+  C = comes-at (S .coming) refl
+
+  P : Adds (eqb n 0) appid table (C .entry) (C .end) r
+  P = I .is appid (C .entry) (C .end) (S .owned .is) (C .read)
+
+  from-here : n + length (idsText (eqb n 0) (names appid table (C .entry ∷ C .rest))) ≡ goal
+  from-here = rw (← C .whole) (S .is)
+
+  pub size-wrong : r ≡ Wrong → n ≡ goal
+  size-wrong h = absurd (go P h)
+    where
+      go : {r : Sized} → Adds (eqb n 0) appid table (C .entry) (C .end) r → r ≡ Wrong → ⊥
+      go (adds-it k) h = let z : _≡_ {A = ℕ} 0 1 = cc in omega arith
+      go (adds-none k) h = let z : _≡_ {A = ℕ} 0 1 = cc in omega arith
+
+  module _ (B : Small r) {j k : ℕ} (h : r ≡ Goes j k) where
+    few : k ≤ 515
+    few = go B h
+      where
+        go : {r : Sized} → Small r → r ≡ Goes j k → k ≤ 515
+        go no-size h = let z : _≡_ {A = ℕ} 0 1 = cc in absurd (omega arith)
+        go (small-size {k = m} l) h = let z : m ≡ k = cc in omega arith
+
+    goes : (j ≡ C .end) × (n + k + length (idsText (eqb (n + k) 0) (names appid table (C .rest))) ≡ goal)
+    goes = go P h
+      where
+        some-bytes : (x : Bytes) → 1 ≤ length (idText (eqb n 0) x)
+        some-bytes x = both (eqb n 0)
+          where
+            both : (u : Bool) → 1 ≤ length (idText u x)
+            both true = omega (arith, id-length true x)
+            both false = omega (arith, id-length false x)
+
+        go : {r : Sized} → Adds (eqb n 0) appid table (C .entry) (C .end) r → r ≡ Goes j k → (j ≡ C .end) × (n + k + length (idsText (eqb (n + k) 0) (names appid table (C .rest))) ≡ goal)
+        go (adds-it m) h =
+            let x : C .end ≡ j = cc in
+            let y : length (idText (eqb n 0) (normalForm (C .entry))) ≡ k = cc in
+            let z : eqb (n + k) 0 ≡ false = ne-eqb (n + k) 0 (λ w. omega (arith, some-bytes (normalForm (C .entry)))) in
+            let a = ap length (ap (idsText (eqb n 0)) (names-kept appid table (C .entry) (C .rest) m) ∙ ids-more (eqb n 0) (normalForm (C .entry)) (names appid table (C .rest))) in
+            (sym x, rw z (omega (arith, from-here, a, length-append (idText (eqb n 0) (normalForm (C .entry))) (idsText false (names appid table (C .rest))))))
+        go (adds-none m) h =
+            let x : C .end ≡ j = cc in
+            let y : 0 ≡ k = cc in
+            let w : n + 0 ≡ n = omega arith in
+            (sym x, rw (← y, w) (ap (λ (l : List Bytes). n + length (idsText (eqb n 0) l)) (sym (names-dropped appid table (C .entry) (C .rest) m)) ∙ from-here))
+
+    pub size-fits : Fits w64 (n + k)
+    size-fits = record { fits = omega (arith, S .small, S .inside, S .short, few) }
+
+    module _ {q : Next} (e : q ≡ nextEntry s j) where
+      rest-comes : Coming s q (C .rest)
+      rest-comes = rw (e, goes .0) (C .later)
+
+      pub size-over : q ≡ Bad → n + k ≡ goal
+      size-over b =
+          let x = rw (nothing-comes rest-comes b, none-length-of (eqb (n + k) 0) appid table) at (goes .1) in
+          omega arith
+
+      module _ {i : ℕ} (f : q ≡ At i) where
+        ahead : at < i
+        ahead = omega (arith, string-spans s at (C .read) .ahead, next-ahead s j e f, goes .0)
+
+        pub size-less : length s - i < length s - at
+        size-less = omega (arith, ahead, S .inside)
+
+        pub size-more : Sizes appid table start end deeper s goal i (n + k)
+        size-more =
+            let D : Coming s (At i) (C .rest) = rw f at rest-comes in
+            record {
+              owned = S .owned;
+              short = S .short;
+              small = omega (arith, S .small, ahead, few);
+              inside = string-spans s i (comes-at D refl .read) .inside;
+              es = C .rest;
+              coming = D;
+              is = goes .1;
+            }

@@ -1,0 +1,57 @@
+-- What the code of cleaning and tally answers, in the terms of Clean and Tally.
+use mathlib.Core.Path.{_≡_}
+use mathlib.Core.Bool.{Bool, true, false}
+use mathlib.Core.List.{List, [], _∷_, _++_, map}
+use mathlib.Core.Option.{Option, none, some}
+use Prim.Native.Nat.{ℕ, _+_, _-_, _≤_}
+use Prim.Native.Char.{code}
+use lib.ListN.{length, take}
+use lib.Dec.{eqb}
+use Rattle.ascii.specs.Ascii.{Bytes, if_then_else_, isNone, text, prefixed, joinWith}
+use Rattle.origin.specs.Origin.{normalForm}
+use Rattle.origin.specs.Parts.{Wrote}
+use Rattle.json_text.specs.Reader.{got}
+use Rattle.json_text.specs.Lexical.{readString}
+use Rattle.json_text.specs.Places.{readAt, fit}
+use Rattle.causes.specs.Causes.{cause, kept}
+use Rattle.causes.specs.Owner.{Owns}
+use Rattle.cleaning.specs.Clean.{quoted}
+use Rattle.cleaning.specs.declared.Sized.{Sized}
+use Rattle.cleaning.specs.declared.Sized.the-variants.{Wrong, Goes}
+
+-- the normal forms of the kept entries
+unfoldable pub names : Bytes → Bytes → List Bytes → List Bytes
+names appid table es = map normalForm (kept appid table es)
+
+-- what stands before an id: its quotation mark, and a comma unless it is the first
+unfoldable pub opening : Bool → Bytes
+opening true = text "\""
+opening false = text ",\""
+
+-- one id as it is written
+unfoldable pub idText : Bool → Bytes → Bytes
+idText first x = opening first ++ x ++ text "\""
+
+-- the ids as they are written, the first of them or later ones
+unfoldable pub idsText : Bool → List Bytes → Bytes
+idsText true xs = joinWith (code ",") (map quoted xs)
+idsText false xs = prefixed (code ",") (map quoted xs)
+
+-- ---- one entry
+
+-- the length of the normal form of an entry of which at most 512 bytes are held
+pub record HeldLength (held : Option Bytes) (r : ℕ) : Type 0 where
+  pub small : r ≤ 512
+  pub is : (entry : Bytes) → length entry ≤ 512 → held ≡ fit entry → r ≡ length (normalForm entry)
+
+-- a kept entry adds the length of its id; another adds nothing
+pub data Adds (first : Bool) (appid table entry : Bytes) (end : ℕ) : Sized → Type 0 where
+  adds-it : isNone (cause appid table entry) ≡ true → Adds first appid table entry end (Goes end (length (idText first (normalForm entry))))
+  adds-none : isNone (cause appid table entry) ≡ false → Adds first appid table entry end (Goes end 0)
+
+pub record SizedIs (first : Bool) (table label : Bytes) (deeper : Bool) (body : Bytes) (at : ℕ) (r : Sized) : Type 0 where
+  pub is : (appid entry : Bytes) (end : ℕ) → Owns appid table label deeper → readAt readString body at ≡ got entry end → Adds first appid table entry end r
+
+pub data Small : Sized → Type 0 where
+  no-size : Small Wrong
+  small-size : {j k : ℕ} → k ≤ 515 → Small (Goes j k)
