@@ -5,3 +5,4 @@ pub mod Laws
 pub mod Padding
 pub mod Rule4
 pub mod MatchNormal
+pub mod PlaceSmall

@@ -23,7 +23,7 @@ use Rattle.decision.specs.Decide.{isBadAppId, Stage, settled, listDue, b
 
 -- ---- before the list nothing answers rule 4
 
-abbrev NoRule4 : Stage → Type 0
+abbrev pub NoRule4 : Stage → Type 0
 NoRule4 (listDue a) = Unit {0}
 NoRule4 (settled rule1) = Unit {0}
 NoRule4 (settled rule2) = Unit {0}
@@ -42,7 +42,7 @@ by-fetch (hopRefused r) = tt
 by-fetch mustFetch = tt
 by-fetch (answered a) = tt
 
-before-list : (caller appid items lent : Bytes) → NoRule4 (beforeList caller appid items lent)
+pub before-list : (caller appid items lent : Bytes) → NoRule4 (beforeList caller appid items lent)
 unfolding beforeList
 before-list caller appid items lent =
     either NoRule4 (not (isFacet caller)) tt
