@@ -1,0 +1,3 @@
+//! Tests of cleaning and tally.
+
+mod generated;
