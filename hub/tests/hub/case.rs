@@ -2,8 +2,15 @@
 
 use crate::model::cleaning;
 use facets_hub::Inputs;
+use std::fmt;
 
-#[derive(Clone, Debug, Default)]
+/// Bytes for a message, the first of them at least.
+pub fn shown(bytes: &[u8]) -> String {
+    let start = &bytes[..bytes.len().min(1000)];
+    format!("{} bytes \"{}\"", bytes.len(), start.escape_ascii())
+}
+
+#[derive(Clone, Default)]
 pub struct Case {
     pub caller: Vec<u8>,
     pub appid: Vec<u8>,
@@ -37,5 +44,23 @@ impl Case {
             body: &self.body,
             table: &self.table,
         }
+    }
+}
+
+impl fmt::Debug for Case {
+    fn fmt(&self, f: &mut fmt::Formatter) -> fmt::Result {
+        writeln!(f, "version {}.{}", self.major, self.minor)?;
+        let parts = [
+            ("caller", &self.caller),
+            ("AppID", &self.appid),
+            ("record", &self.record),
+            ("text", &self.text),
+            ("body", &self.body),
+            ("table", &self.table),
+        ];
+        for (name, bytes) in parts {
+            writeln!(f, "{name} {}", shown(bytes))?;
+        }
+        Ok(())
     }
 }

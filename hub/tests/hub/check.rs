@@ -1,50 +1,35 @@
 //! The library's calls beside the model's, every output of theirs.
 
-use crate::model::{
-    cleaning,
-    decision::{self, Answer, Decision},
-    Refused,
+use crate::{
+    case::{shown, Case},
+    model::{
+        decision::{self, Answer, Decision},
+        Refused,
+    },
 };
 use facets_hub::{
-    clean, decide, decision_code, decision_code_with_place, fetch_location, tally, Counts, Inputs, Refusal,
+    clean, decide, decision_code, decision_code_with_place, fetch_location, tally, Counts, Refusal,
 };
 
 /// What the place is before a call.
 const UNCHANGED: u32 = 0xDEAD_BEEF;
 
-fn shown(bytes: &[u8]) -> String {
-    let start = &bytes[..bytes.len().min(1000)];
-    format!("{} bytes \"{}\"", bytes.len(), start.escape_ascii())
-}
-
-fn shown_decision(inputs: &Inputs) -> String {
-    let Inputs { caller, appid, major, minor, record, text, body, table } = *inputs;
-    format!(
-        "caller {}\nAppID {}\nversion {major}.{minor}\nrecord {record:?}\ntext {}\nbody {}\ntable {}",
-        shown(caller),
-        shown(appid),
-        shown(text),
-        shown(body),
-        shown(table)
-    )
-}
-
 /// Asserts that the library decides like the model and gives its fetch location; returns the decision.
-pub fn decision(inputs: &Inputs) -> Decision {
-    let expected = decision::decide(inputs);
+pub fn decision(case: &Case) -> Decision {
+    let inputs = case.decision();
+    let expected = decision::decide(&inputs);
     let code = decision::code(expected);
-    let context = || shown_decision(inputs);
-    assert_eq!(decision_code(inputs), code, "the code\n{}", context());
+    assert_eq!(decision_code(&inputs), code, "the code\n{case:?}");
     let mut place = UNCHANGED;
-    assert_eq!(decision_code_with_place(inputs, &mut place), code, "the code beside a place\n{}", context());
+    assert_eq!(decision_code_with_place(&inputs, &mut place), code, "the code beside a place\n{case:?}");
     let expected_place = match expected {
         Ok(Answer::Listed(place)) => place,
         _ => UNCHANGED,
     };
-    assert_eq!(place, expected_place, "the place\n{}", context());
-    assert_eq!(decide(inputs), answer(expected), "the answer\n{}", context());
-    let location = fetch_location(inputs.caller, inputs.appid, inputs.record, inputs.text);
-    assert_eq!(shown(location), shown(&decision::fetch_location(inputs)), "the location\n{}", context());
+    assert_eq!(place, expected_place, "the place\n{case:?}");
+    assert_eq!(decide(&inputs), answer(expected), "the answer\n{case:?}");
+    let location = fetch_location(&case.caller, &case.appid, &case.record, &case.text);
+    assert_eq!(shown(location), shown(&decision::fetch_location(&inputs)), "the location\n{case:?}");
     expected
 }
 
@@ -64,28 +49,22 @@ fn refusal(number: Refused) -> Refusal {
     Refusal::ALL[usize::from(number) - 1]
 }
 
-fn shown_cleaning(inputs: &cleaning::Inputs) -> String {
-    let cleaning::Inputs { appid, major, minor, body, table } = *inputs;
-    format!("AppID {}\nversion {major}.{minor}\nbody {}\ntable {}", shown(appid), shown(body), shown(table))
-}
-
 /// Asserts that the library cleans into these bytes like the model, byte for byte; returns length or refusal.
-pub fn cleaning(inputs: &cleaning::Inputs, out: &[u8]) -> Result<usize, Refused> {
-    let cleaning::Inputs { appid, major, minor, body, table } = *inputs;
+pub fn cleaning(case: &Case, out: &[u8]) -> Result<usize, Refused> {
+    let Case { appid, major, minor, body, table, .. } = case;
     let (mut expected_out, mut given_out) = (out.to_vec(), out.to_vec());
-    let expected = inputs.clean(&mut expected_out);
-    let given = clean(appid, major, minor, body, table, &mut given_out);
-    let context = || format!("output {} bytes\n{}", out.len(), shown_cleaning(inputs));
-    assert_eq!(given, expected.map_err(refusal), "length or refusal\n{}", context());
-    assert_eq!(shown(&given_out), shown(&expected_out), "the output\n{}", context());
-    assert!(given_out == expected_out, "the output past its first bytes\n{}", context());
+    let expected = case.cleaning().clean(&mut expected_out);
+    let given = clean(appid, *major, *minor, body, table, &mut given_out);
+    assert_eq!(given, expected.map_err(refusal), "into {} bytes\n{case:?}", out.len());
+    assert_eq!(shown(&given_out), shown(&expected_out), "the output\n{case:?}");
+    assert!(given_out == expected_out, "the output past its first bytes\n{case:?}");
     expected
 }
 
 /// Asserts that the library counts like the model; returns the counts, kept ones first, or the refusal.
-pub fn tallying(inputs: &cleaning::Inputs) -> Result<[u32; 5], Refused> {
-    let cleaning::Inputs { appid, major, minor, body, table } = *inputs;
-    let expected = inputs.tally();
+pub fn tallying(case: &Case) -> Result<[u32; 5], Refused> {
+    let Case { appid, major, minor, body, table, .. } = case;
+    let expected = case.cleaning().tally();
     let counts = |[kept, too_long, other_scheme, not_facet, other_label]: [u32; 5]| Counts {
         kept,
         too_long,
@@ -93,7 +72,7 @@ pub fn tallying(inputs: &cleaning::Inputs) -> Result<[u32; 5], Refused> {
         not_facet,
         other_label,
     };
-    let given = tally(appid, major, minor, body, table);
-    assert_eq!(given, expected.map(counts).map_err(refusal), "{}", shown_cleaning(inputs));
+    let given = tally(appid, *major, *minor, body, table);
+    assert_eq!(given, expected.map(counts).map_err(refusal), "{case:?}");
     expected
 }

@@ -1,11 +1,12 @@
 //! What cases written by hand share: a good case to change, and checks against library and model.
 
 use crate::{
-    case::Case,
+    case::{shown, Case},
     check,
     make::{json::Json, record},
     model::decision::{code, Answer},
 };
+use facets_hub::clean;
 
 /// The rules of document 01's label cases.
 pub const TABLE: &str = "com\nhosting.example.com\n*.ck\n!www.ck\n";
@@ -41,53 +42,47 @@ impl Case {
     /// Asserts the decision's code and that of a call with a place.
     #[track_caller]
     pub fn decides(&self, expected: u16) {
-        assert_eq!(code(check::decision(&self.decision())), expected);
+        assert_eq!(code(check::decision(self)), expected);
     }
 
     /// Asserts that the caller is allowed by rule 4 with this place.
     #[track_caller]
     pub fn listed_at(&self, place: u32) {
-        assert_eq!(check::decision(&self.decision()), Ok(Answer::Listed(place)));
+        assert_eq!(check::decision(self), Ok(Answer::Listed(place)));
     }
 
     /// Asserts that decision, cleaning and tally all refuse so.
     #[track_caller]
     pub fn refused(&self, number: u16) {
         self.decides(100 + number);
-        let inputs = self.cleaning();
-        assert_eq!(check::cleaning(&inputs, b"any bytes"), Err(number));
-        assert_eq!(check::tallying(&inputs), Err(number));
+        assert_eq!(check::cleaning(self, b"any bytes"), Err(number));
+        assert_eq!(check::tallying(self), Err(number));
     }
 
     /// Asserts the counts of kept entries and of the four causes, and that the list is cleaned.
     #[track_caller]
     pub fn counts(&self, expected: [u32; 5]) {
-        let inputs = self.cleaning();
-        assert_eq!(check::tallying(&inputs), Ok(expected));
-        let length = inputs.list().expect("a list").len();
-        assert_eq!(check::cleaning(&inputs, &vec![b'#'; length + 9]), Ok(length));
-        assert_eq!(check::cleaning(&inputs, &vec![b'#'; length]), Ok(length));
-        assert_eq!(check::cleaning(&inputs, &vec![b'#'; length - 1]), Err(15));
-        let decided = code(check::decision(&self.decision()));
+        assert_eq!(check::tallying(self), Ok(expected));
+        let length = self.cleaning().list().expect("a list").len();
+        assert_eq!(check::cleaning(self, &vec![b'#'; length + 9]), Ok(length));
+        assert_eq!(check::cleaning(self, &vec![b'#'; length]), Ok(length));
+        assert_eq!(check::cleaning(self, &vec![b'#'; length - 1]), Err(15));
+        let decided = code(check::decision(self));
         assert!(decided == 4 || decided == 114, "{decided}");
     }
 
     /// Asserts that cleaning keeps just these entries, in normal form.
     #[track_caller]
     pub fn keeps(&self, forms: &[&str]) {
-        let inputs = self.cleaning();
-        let mut out = [b'#'; 4096];
-        let length =
-            facets_hub::clean(inputs.appid, self.major, self.minor, &self.body, &self.table, &mut out);
-        let (major, minor, ids) = (self.major, self.minor, forms.join("\",\""));
-        let ids = if forms.is_empty() { String::new() } else { format!("\"{ids}\"") };
+        let Case { appid, major, minor, body, table, .. } = self;
+        let quoted: Vec<String> = forms.iter().map(|form| format!("\"{form}\"")).collect();
         let list = format!(
-            r#"{{"trustedFacets":[{{"version":{{"major":{major},"minor":{minor}}},"ids":[{ids}]}}]}}"#
+            r#"{{"trustedFacets":[{{"version":{{"major":{major},"minor":{minor}}},"ids":[{}]}}]}}"#,
+            quoted.join(",")
         );
-        assert_eq!(
-            out[..length.expect("a list")].escape_ascii().to_string(),
-            list.escape_default().to_string()
-        );
-        assert_eq!(check::cleaning(&inputs, &[b'#'; 4096]), Ok(list.len()));
+        let mut out = vec![b'#'; list.len() + 1];
+        assert_eq!(clean(appid, *major, *minor, body, table, &mut out), Ok(list.len()), "{self:?}");
+        assert_eq!(shown(&out), shown(format!("{list}#").as_bytes()), "{self:?}");
+        assert_eq!(check::cleaning(self, &out), Ok(list.len()));
     }
 }

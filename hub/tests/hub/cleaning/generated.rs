@@ -45,13 +45,12 @@ fn generated_cleanings_and_tallies_beside_the_model() {
         let last = CLEANINGS.len() - 1;
         let wanted = if round % 2 == 0 { random.below(CLEANINGS.len()) } else { last };
         let case = case::cleaning(&mut random, wanted);
-        let inputs = case.cleaning();
-        let (output, out) = output(&mut random, &inputs);
-        let refusal = check::cleaning(&inputs, &out).err().unwrap_or(0);
+        let (output, out) = output(&mut random, &case.cleaning());
+        let refusal = check::cleaning(&case, &out).err().unwrap_or(0);
         // Under the refusals that come before the list the output's length means nothing.
         let output = (refusal == 0 || refusal == 15).then_some(output);
         *cleanings.entry((refusal, output)).or_default() += 1;
-        let tally = check::tallying(&inputs);
+        let tally = check::tallying(&case);
         *tallies.entry(tally.err().unwrap_or(0)).or_default() += 1;
         for (sum, count) in counts.iter_mut().zip(tally.unwrap_or_default()) {
             *sum += count;

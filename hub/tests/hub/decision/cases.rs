@@ -2,6 +2,7 @@
 
 use crate::{
     case::Case,
+    check,
     hand::{body, body_of, case, APP},
     make::record::{answer, redirect},
 };
@@ -281,8 +282,8 @@ fn appids_that_are_no_urls_are_bad_or_foreign() {
     // The empty AppID is rule 2's in the decision, and 3 elsewhere.
     let empty = Case { appid: Vec::new(), ..case(&NONE) };
     empty.decides(2);
-    assert_eq!(crate::check::cleaning(&empty.cleaning(), b"#"), Err(3));
-    assert_eq!(crate::check::tallying(&empty.cleaning()), Err(3));
+    assert_eq!(check::cleaning(&empty, b"#"), Err(3));
+    assert_eq!(check::tallying(&empty), Err(3));
     for appid in ["https://a.b:65535/!~", "HTTPS://a.b:1?#"] {
         let good = !appid.ends_with('#');
         Case { appid: appid.into(), ..case(&[APP]) }.decides(if good { 4 } else { 102 });

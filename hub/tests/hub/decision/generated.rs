@@ -24,7 +24,7 @@ fn generated_decisions_beside_the_model() {
         // Every second round aims at the list's end of the order, where most is to be told apart.
         let wanted = if round % 2 == 0 { random.below(DECISIONS.len()) } else { 12 + random.below(7) };
         let case = case::decision(&mut random, wanted);
-        let decision = check::decision(&case.decision());
+        let decision = check::decision(&case);
         *codes.get_mut(&code(decision)).expect("a code of document 01") += 1;
         match decision {
             Ok(Answer::Listed(place)) => *places.entry(place).or_default() += 1,

@@ -129,7 +129,8 @@ fn escape(random: &mut Random, c: char) -> String {
 
 /// Arrays and objects in each other, so many open together.
 pub fn nest(random: &mut Random, depth: usize) -> Json {
-    let mut raw = random.pick(&["", "1", "\"\""]).to_owned();
+    let innermost: &[&str] = if depth == 0 { &["1", "\"\""] } else { &["", "1", "\"\""] };
+    let mut raw = random.pick(innermost).to_owned();
     for level in 0..depth {
         raw = match (random.below(2), level) {
             (0, 0) => "{}".to_owned(),
