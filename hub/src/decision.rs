@@ -111,28 +111,28 @@ mod tests {
     use std::panic;
 
     #[test]
-    fn every_code_of_document_01_is_known_and_no_other() {
-        for code in 0..=u16::MAX {
-            let answer = match code {
-                1..=5 | 101..=114 => Answer::from_library(code, 7),
-                _ => continue,
-            };
-            let again = match answer {
-                Answer::Rule1 => 1,
-                Answer::Rule2 => 2,
-                Answer::Rule3 => 3,
-                Answer::Rule4 { place } => u16::from(place == 7) * 4,
-                Answer::Fetch => 5,
-                Answer::Refused(refusal) => 100 + refusal.number(),
-            };
-            assert_eq!(again, code);
-            assert_eq!(answer.allows(), code < 5);
+    fn every_code_of_document_01_is_an_answer() {
+        for (code, answer) in [
+            (1, Answer::Rule1),
+            (2, Answer::Rule2),
+            (3, Answer::Rule3),
+            (4, Answer::Rule4 { place: 7 }),
+            (5, Answer::Fetch),
+            (101, Answer::Refused(Refusal::Stranger)),
+            (114, Answer::Refused(Refusal::NotListed)),
+        ] {
+            assert_eq!(Answer::from_library(code, 7), answer);
+            assert_eq!(answer.allows(), code <= 4);
         }
-        assert_eq!(Answer::from_library(114, 0), Answer::Refused(Refusal::NotListed));
+        for number in 1..=14 {
+            let refusal = Refusal::from_library(number);
+            assert_eq!(Answer::from_library(100 + number, 0), Answer::Refused(refusal));
+        }
     }
 
     #[test]
     fn an_unknown_code_panics_with_its_number() {
+        // 115 is a refusal of cleaning's alone.
         for code in [0, 6, 99, 100, 115, 116, u16::MAX] {
             let panic = panic::catch_unwind(|| Answer::from_library(code, 0)).expect_err("no answer");
             let message = panic.downcast_ref::<String>().expect("a message");

@@ -10,13 +10,15 @@ use crate::{
 };
 use facets_hub::{clean, decision_code, decision_code_with_place};
 
-/// Callers for a list: its entries, facets or not, and others.
+/// Callers for a list, each once: its entries, facets or not, and others.
 fn callers(random: &mut Random, host: &str, entries: &[&String]) -> Vec<Vec<u8>> {
     let mut callers: Vec<Vec<u8>> = entries.iter().map(|entry| entry.as_bytes().to_vec()).collect();
     for _ in 0..4 {
         let relative = relative(random, host);
         callers.push(facet(random, &relative).into_bytes());
     }
+    callers.sort();
+    callers.dedup();
     callers
 }
 
