@@ -23,9 +23,31 @@ pub fn clean(
     table: &[u8],
     out: &mut [u8],
 ) -> Result<usize, Refusal> {
-    let cleaned = ffi::clean(appid, major, minor, body, table, out);
-    match cleaned.refusal {
-        0 => Ok(cleaned.len as usize),
-        number => Err(Refusal::from_library(number)),
+    result(ffi::clean(appid, major, minor, body, table, out))
+}
+
+fn result(cleaned: ffi::Cleaned) -> Result<usize, Refusal> {
+    match (cleaned.refusal, cleaned.len) {
+        (0, length) => Ok(length as usize),
+        (number, 0) => Err(Refusal::from_library(number)),
+        (number, length) => panic!("the library gave refusal {number} with the length {length}"),
+    }
+}
+
+#[cfg(test)]
+mod tests {
+    use super::result;
+    use crate::{ffi::Cleaned, Refusal};
+
+    #[test]
+    fn a_length_or_a_refusal() {
+        assert_eq!(result(Cleaned { refusal: 0, len: 65_536 }), Ok(65_536));
+        assert_eq!(result(Cleaned { refusal: 15, len: 0 }), Err(Refusal::Full));
+    }
+
+    #[test]
+    #[should_panic(expected = "refusal 15 with the length 1")]
+    fn a_refusal_carries_no_length() {
+        let _ = result(Cleaned { refusal: 15, len: 1 });
     }
 }

@@ -26,10 +26,38 @@ pub struct Counts {
 /// assert_eq!((counts.kept, counts.other_scheme, counts.other_label), (1, 1, 1));
 /// ```
 pub fn tally(appid: &[u8], major: u16, minor: u16, body: &[u8], table: &[u8]) -> Result<Counts, Refusal> {
-    let ffi::Tally { refusal, kept, too_long, other_scheme, not_facet, other_label } =
-        ffi::tally(appid, major, minor, body, table);
+    result(ffi::tally(appid, major, minor, body, table))
+}
+
+fn result(tally: ffi::Tally) -> Result<Counts, Refusal> {
+    let ffi::Tally { refusal, kept, too_long, other_scheme, not_facet, other_label } = tally;
+    let counts = Counts { kept, too_long, other_scheme, not_facet, other_label };
     match refusal {
-        0 => Ok(Counts { kept, too_long, other_scheme, not_facet, other_label }),
-        number => Err(Refusal::from_library(number)),
+        0 => Ok(counts),
+        number if counts == Counts::default() => Err(Refusal::from_library(number)),
+        number => panic!("the library gave refusal {number} with {counts:?}"),
+    }
+}
+
+#[cfg(test)]
+mod tests {
+    use super::{result, Counts};
+    use crate::{ffi::Tally, Refusal};
+
+    const NONE: Tally =
+        Tally { refusal: 0, kept: 0, too_long: 0, other_scheme: 0, not_facet: 0, other_label: 0 };
+
+    #[test]
+    fn counts_or_a_refusal() {
+        let given = Tally { kept: 1, too_long: 2, other_scheme: 3, not_facet: 4, other_label: 5, ..NONE };
+        let counts = Counts { kept: 1, too_long: 2, other_scheme: 3, not_facet: 4, other_label: 5 };
+        assert_eq!(result(given), Ok(counts));
+        assert_eq!(result(Tally { refusal: 12, ..NONE }), Err(Refusal::NoVersion));
+    }
+
+    #[test]
+    #[should_panic(expected = "refusal 12 with Counts")]
+    fn a_refusal_carries_no_counts() {
+        let _ = result(Tally { refusal: 12, other_label: 1, ..NONE });
     }
 }
