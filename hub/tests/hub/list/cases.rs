@@ -142,6 +142,39 @@ fn names_compare_after_escapes_and_other_members_are_skipped() {
 }
 
 #[test]
+fn members_stand_in_any_order() {
+    for body in [
+        r#"{"trustedFacets":[{"ids":["x"],"version":{"minor":0,"major":1}}]}"#,
+        r#"{"a":0,"trustedFacets":[{"ids":["x"],"a":0,"version":{"minor":0,"a":0,"major":1},"a":0}],"a":0}"#,
+        r#"{"trustedFacets":[{"ids":["y","y"],"version":{"minor":1,"major":0}},
+            {"ids":["x"],"version":{"minor":0,"major":1}},{"ids":[],"version":{"minor":0,"major":1}}]}"#,
+    ] {
+        with_body(body).counts([0, 0, 1, 0, 0]);
+    }
+}
+
+#[test]
+fn other_names_and_numbers_have_any_length() {
+    for length in [1, 255, 256, 511, 512, 513, 514, 1024, 3000] {
+        let fill = "s".repeat(length);
+        for name in
+            [fill.clone(), format!("ids{fill}"), format!("ids\\u0000{fill}"), "\\u0073".repeat(length)]
+        {
+            let object = format!(r#""version":{{"major":1,"{name}":1,"minor":0}},"{name}":2,"ids":["x"]"#);
+            with_body(format!(r#"{{"{name}":[],"trustedFacets":[{{{object}}}]}}"#)).counts([0, 0, 1, 0, 0]);
+            // It is a member like another, twice or not, but no stand-in for one that is asked for.
+            let object = format!(r#""version":{{"major":1,"minor":0}},"{name}":["x"]"#);
+            with_body(format!(r#"{{"trustedFacets":[{{{object}}}]}}"#)).refused(11);
+        }
+        let digits = "1".repeat(length);
+        with_body(body_of(&format!("[],\"x\":{digits},\"y\":-{digits}.{digits}e-{digits}"))).counts([0; 5]);
+        if length > 1 {
+            with_version(&format!(r#"{{"major":{digits},"minor":0}}"#)).refused(11);
+        }
+    }
+}
+
+#[test]
 fn entries_are_discarded_for_the_first_cause_that_holds() {
     let long = |start: &str| start.to_owned() + &"a".repeat(513 - start.len());
     for (entry, cause) in [

@@ -50,14 +50,8 @@ pub fn decision(random: &mut Random, wanted: usize) -> Case {
     };
     case.caller = caller;
     fetched(random, &plan, &host, &mut case);
-    if random.chance(4) {
-        let parts = [
-            &mut case.caller, &mut case.appid, &mut case.record, &mut case.text, &mut case.body,
-            &mut case.table,
-        ];
-        let at = random.below(parts.len());
-        damage(random, parts.into_iter().nth(at).expect("a part"));
-    }
+    let Case { caller, appid, record, text, body, table, .. } = &mut case;
+    seldom_damage(random, &mut [caller, appid, record, text, body, table]);
     case
 }
 
@@ -67,12 +61,17 @@ pub fn cleaning(random: &mut Random, wanted: usize) -> Case {
     let host = host(random);
     let mut case = Case { appid: appid(random, &plan, &host), ..Case::default() };
     list(random, &plan, &host, &mut case);
-    if random.chance(4) {
-        let parts = [&mut case.appid, &mut case.body, &mut case.table];
-        let at = random.below(parts.len());
-        damage(random, parts.into_iter().nth(at).expect("a part"));
-    }
+    let Case { appid, body, table, .. } = &mut case;
+    seldom_damage(random, &mut [appid, body, table]);
     case
+}
+
+/// Changes one byte of one of these parts, in 4 of 100 inputs.
+fn seldom_damage(random: &mut Random, parts: &mut [&mut Vec<u8>]) {
+    if random.chance(4) {
+        let at = random.below(parts.len());
+        damage(random, parts[at]);
+    }
 }
 
 fn appid(random: &mut Random, plan: &Plan, host: &str) -> Vec<u8> {
