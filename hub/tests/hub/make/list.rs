@@ -32,8 +32,13 @@ pub fn entry(random: &mut Random, host: &str) -> String {
     }
 }
 
+/// Entries of a list: mostly few, seldom many, some of them repeated.
 pub fn entries(random: &mut Random, host: &str) -> Vec<String> {
-    let count = if random.chance(10) { random.below(2) } else { random.below(7) };
+    let count = match random.below(100) {
+        0 => 10 + random.below(50),
+        1..=10 => random.below(2),
+        _ => random.below(7),
+    };
     let mut entries: Vec<String> = (0..count).map(|_| entry(random, host)).collect();
     if random.chance(20) && count > 0 {
         // A repeat.
