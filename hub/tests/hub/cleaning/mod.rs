@@ -1,3 +1,4 @@
 //! Tests of cleaning and tally.
 
+mod cases;
 mod generated;

@@ -2,7 +2,7 @@
 
 use crate::{
     case::Case,
-    hand::{body, body_of, case, APP},
+    hand::{body_of, case, APP},
 };
 
 const NONE: [&str; 0] = [];
@@ -206,43 +206,4 @@ fn entries_are_discarded_for_the_first_cause_that_holds() {
         counts[0] += 2;
         case(&[APP, &entry, "https://example.com"]).counts(counts);
     }
-}
-
-#[test]
-fn cleaning_prints_document_01s_list() {
-    let body = body(&[
-        "https://Fido.example.com/", "http://www.example.com", "ios:bundle-id:com.acme.app",
-        "https://www.example.com:444",
-    ]);
-    let case = Case { body, table: b"com".into(), ..case(&NONE) };
-    case.keeps(&["https://fido.example.com", "ios:bundle-id:com.acme.app", "https://www.example.com:444"]);
-    case.counts([3, 0, 1, 0, 0]);
-    case.listed_at(1);
-}
-
-#[test]
-fn cleaning_writes_normal_forms_in_order_repeats_included() {
-    case(&NONE).keeps(&[]);
-    case(&["x", "https://other.com"]).keeps(&[]);
-    case(&[
-        "HTTPS://A.Example.COM:443/",
-        "https://a.example.com",
-        "https://a.example.com:80/",
-        "ios:bundle-id:Com.ACME",
-        "android:apk-key-hash:Az09+/Az09+/Az09+/Az09+/Aza",
-        "ios:bundle-id:Com.ACME",
-    ])
-    .keeps(&[
-        "https://a.example.com",
-        "https://a.example.com",
-        "https://a.example.com:80",
-        "ios:bundle-id:Com.ACME",
-        "android:apk-key-hash:Az09+/Az09+/Az09+/Az09+/Aza",
-        "ios:bundle-id:Com.ACME",
-    ]);
-    // Escapes are gone, and a slash is written as it is.
-    let escaped =
-        r#"["\u0068ttps:\/\/\u0041.example.com","android:apk-key-hash:Az09+\/Az09+\/Az09+\/Az09+\/Aza"]"#;
-    let kept = ["https://a.example.com", "android:apk-key-hash:Az09+/Az09+/Az09+/Az09+/Aza"];
-    with_body(body_of(escaped)).keeps(&kept);
 }
