@@ -1,23 +1,22 @@
 -- What a caller of `fetching` and `last_location` knows, by cases. Assumes nothing.
-use mathlib.Core.Path.{_≡_, refl, sym, ap, _∙_}
-use mathlib.Core.Bool.{Bool, true, false, not}
-use mathlib.Core.List.{List, [], _∷_, map, head?}
+use mathlib.Core.Path.{_≡_, refl, sym, _∙_}
+use mathlib.Core.List.{[]}
 use mathlib.Core.Option.{Option, none, some}
 use Prim.Native.Nat.{ℕ, _-_, _≤_}
 use native.Mathlib.Omega.{arith}
 use lib.ListN.{length, take, drop}
-use Rattle.ascii.specs.Ascii.{Bytes, if_then_else_, _>>=_, isNone, all, beginsWith, lastOf}
-use Rattle.origin.specs.Origin.{httpsUrl}
+use Rattle.ascii.specs.Ascii.{Bytes, all, beginsWith, lastOf}
 use Rattle.refusals.specs.declared.Refusal.{Refusal}
-use Rattle.refusals.specs.declared.Refusal.the-variants.{BadRecord, OpenRedirect, BadLocation}
-use Rattle.fetch_record.specs.Record.{Redirect, Answer, Fetched, readEnd, readItems, readRecord, location, hopRefusal, lastLocation}
+use Rattle.refusals.specs.declared.Refusal.the-variants.{BadRecord}
+use Rattle.fetch_record.specs.Record.{Answer, Fetched, readEnd, readItems, readRecord, hopRefusal, lastLocation}
 use Rattle.fetch_record.specs.Fetching.{Fetching, refused, fetch, answered, afterHops, byRecord, fetching}
-use Rattle.fetch_record.specs.Meaning.{answerOf, outcomeOf, target, partIn, TargetPlaced, no-target, target-in, Targets}
+use Rattle.fetch_record.specs.Meaning.{answerOf, outcomeOf, target, partIn, TargetPlaced, target-in, Targets}
 use Rattle.fetch_record.specs.declared.item.Answer.{Answer as AnswerItem}
 use Rattle.fetch_record.specs.declared.Outcome.{Outcome}
 use Rattle.fetch_record.specs.declared.Outcome.the-variants.{Refused, Fetch, Answered as Settled}
 use Rattle.fetch_record.specs.declared.Target.{Target}
 use Rattle.fetch_record.specs.declared.Target.the-variants.{NoRedirect, Part}
+use Rattle.fetch_record.proofs.HopLaws.{HopRefusal, by-five, by-six, hop-refusals}
 
 -- ---- the definition by cases
 
@@ -119,3 +118,42 @@ module _ {lent : Bytes} {o : Option Bytes} {q : Target} (T : Targets lent o q) w
 
     pub target-end : b ≤ length lent
     target-end = I .high
+
+-- ---- single facts
+
+pub answer-status : (a : AnswerItem) → answerOf a .status ≡ a .status
+unfolding answerOf
+answer-status a = refl
+
+pub answer-type : (a : AnswerItem) → answerOf a .typeSeen ≡ a .«type_seen»
+unfolding answerOf
+answer-type a = refl
+
+pub target-is : (items lent : Bytes) (f : Fetched) → readRecord items lent ≡ some f → target items lent ≡ lastLocation lent (f .redirects)
+unfolding target
+target-is items lent f e = rw e
+
+pub target-bad : (items lent : Bytes) → readRecord items lent ≡ none → target items lent ≡ none
+unfolding target
+target-bad items lent e = rw e
+
+-- no hop is refused by 4
+not-four : {r : Refusal} → HopRefusal r → r ≡ BadRecord → ⊥
+not-four by-five e = let z : _≡_ {A = ℕ} 0 1 = cc in omega arith
+not-four by-six e = let z : _≡_ {A = ℕ} 0 1 = cc in omega arith
+
+no-record : (lent : Bytes) (o : Option Fetched) → byRecord lent o ≡ refused BadRecord → o ≡ none
+unfolding byRecord afterHops
+no-record lent none e = refl
+no-record lent (some f) e = go (hopRefusal lent (f .redirects)) (f .answer) refl e
+  where
+    go : (r : Option Refusal) (a : Option Answer) → hopRefusal lent (f .redirects) ≡ r → afterHops r a ≡ refused BadRecord → some f ≡ none
+    go none none h e = let z : _≡_ {A = ℕ} 0 1 = cc in absurd (omega arith)
+    go none (some x) h e = let z : _≡_ {A = ℕ} 0 1 = cc in absurd (omega arith)
+    go (some r) none h e = let z : r ≡ BadRecord = cc in absurd (not-four (hop-refusals lent (f .redirects) r h) z)
+    go (some r) (some x) h e = let z : r ≡ BadRecord = cc in absurd (not-four (hop-refusals lent (f .redirects) r h) z)
+
+-- so 4 means that the record does not read: no 5 or 6 of a hop stands in for it
+pub refused-four : (items lent : Bytes) → fetching items lent ≡ refused BadRecord → readRecord items lent ≡ none
+unfolding fetching
+refused-four items lent e = no-record lent (readRecord items lent) e

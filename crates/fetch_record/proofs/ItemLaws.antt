@@ -1,19 +1,17 @@
 -- The bodies of items. Assumes nothing.
-use mathlib.Core.Path.{_≡_, refl, sym, ap, _∙_}
-use mathlib.Core.Bool.{Bool, true, false, _&&_}
-use mathlib.Core.List.{List, [], _∷_}
-use mathlib.Core.Option.{Option, none, some}
-use Prim.Native.Nat.{ℕ, zero, suc, _+_, _-_, _*_, _≤_, _<_}
+use mathlib.Core.Path.{_≡_}
+use mathlib.Core.Bool.{Bool, true, false, _&&_, and-false}
+use mathlib.Core.Option.{none, some}
+use Prim.Native.Nat.{ℕ, _+_, _-_, _*_, _≤_, _<_}
 use native.Mathlib.Omega.{arith}
-use lib.ListN.{length, getD, take, drop, length-take}
+use lib.ListN.{length, getD, take}
 use lib.Seq.{getD-take, length-take-le}
 use lib.Dec.{eqb, leb}
 use borrow.Author.Tests.{lt-leb, le-leb}
 use Rattle.ascii.specs.Ascii.{Bytes, if_then_else_, between}
-use Rattle.fetch_record.specs.Record.{Redirect, Answer, number, readRedirect, readAnswer}
+use Rattle.fetch_record.specs.Record.{Redirect, number, readRedirect, readAnswer}
 use Rattle.fetch_record.specs.Meaning.{redirectOf, answerOf, redirectRead, answerRead, redirectIn}
 use Rattle.fetch_record.specs.declared.item.Redirect.{Redirect as RedirectItem}
-use Rattle.fetch_record.specs.declared.item.Answer.{Answer as AnswerItem}
 use Rattle.fetch_record.specs.declared.item.RedirectBody.the-variants.{Redirect as IsRedirect, Malformed as NoRedirectBody}
 use Rattle.fetch_record.specs.declared.item.AnswerBody.the-variants.{Answer as IsAnswer, Malformed as NoAnswerBody}
 
@@ -33,23 +31,21 @@ module _ (s : Bytes) (h : 7 ≤ length s) {q : ℕ} (e : q ≡ getD s 0 0 * 256 
   unfolding readRedirect redirectIn number
   redirect-is = rw (le-leb 7 (length s) h, e)
 
-  pub redirect-low : q < 300 → redirectRead NoRedirectBody ≡ readRedirect s
+  pub redirect-low : {n : ℕ} → q < n → n ≤ 300 → redirectRead NoRedirectBody ≡ readRedirect s
   unfolding redirectRead
-  redirect-low k = rw (redirect-is, lt-leb 300 q k)
+  redirect-low k l = rw (redirect-is, lt-leb 300 q (omega arith))
 
-  module _ (k : 300 ≤ q) where
-    pub redirect-high : 399 < q → redirectRead NoRedirectBody ≡ readRedirect s
-    unfolding redirectRead
-    redirect-high l = rw (redirect-is, le-leb 300 q k, lt-leb q 399 l)
+  pub redirect-high : {n : ℕ} → n < q → 399 ≤ n → redirectRead NoRedirectBody ≡ readRedirect s
+  unfolding redirectRead
+  redirect-high k l = rw (redirect-is, lt-leb q 399 (omega arith), and-false)
 
-    module _ (l : q ≤ 399) where
-      pub redirect-flag : 1 < getD s 2 0 → redirectRead NoRedirectBody ≡ readRedirect s
-      unfolding redirectRead
-      redirect-flag m = rw (redirect-is, le-leb 300 q k, le-leb q 399 l, lt-leb (getD s 2 0) 1 m)
+  pub redirect-flag : {n : ℕ} → n < getD s 2 0 → 1 ≤ n → redirectRead NoRedirectBody ≡ readRedirect s
+  unfolding redirectRead
+  redirect-flag k l = rw (redirect-is, lt-leb (getD s 2 0) 1 (omega arith), and-false)
 
-      pub redirect-read : (r : RedirectItem) → getD s 2 0 ≤ 1 → redirectOf r ≡ redirectIn s → redirectRead (IsRedirect r) ≡ readRedirect s
-      unfolding redirectRead
-      redirect-read r m f = rw (redirect-is, le-leb 300 q k, le-leb q 399 l, le-leb (getD s 2 0) 1 m, f)
+  pub redirect-read : (r : RedirectItem) → 300 ≤ q → q ≤ 399 → getD s 2 0 ≤ 1 → redirectOf r ≡ redirectIn s → redirectRead (IsRedirect r) ≡ readRedirect s
+  unfolding redirectRead
+  redirect-read r k l m f = rw (redirect-is, le-leb 300 q k, le-leb q 399 l, le-leb (getD s 2 0) 1 m, f)
 
 -- a body that is read has these fields
 pub read-fields : (s : Bytes) (r : Redirect) → readRedirect s ≡ some r → r ≡ redirectIn s
@@ -88,9 +84,9 @@ unfolding answerRead readAnswer
 answer-short s h = rw (lt-leb 3 (length s) h)
 
 module _ (s : Bytes) (h : 3 ≤ length s) where
-  pub answer-flag : 1 < getD s 2 0 → answerRead NoAnswerBody ≡ readAnswer s
+  pub answer-flag : {n : ℕ} → n < getD s 2 0 → 1 ≤ n → answerRead NoAnswerBody ≡ readAnswer s
   unfolding answerRead readAnswer
-  answer-flag m = rw (le-leb 3 (length s) h, lt-leb (getD s 2 0) 1 m)
+  answer-flag k l = rw (le-leb 3 (length s) h, lt-leb (getD s 2 0) 1 (omega arith))
 
   pub answer-read : {q : ℕ} → q ≡ getD s 0 0 * 256 + getD s 1 0 → getD s 2 0 ≤ 1
       → answerRead (IsAnswer (record { status = q; «type_seen» = eqb (getD s 2 0) 1 })) ≡ readAnswer s

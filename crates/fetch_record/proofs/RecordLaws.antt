@@ -8,13 +8,13 @@ use native.Mathlib.Numerals.{add-one}
 use native.Mathlib.Omega.{arith}
 use lib.ListN.{length, getD, take, drop, length-drop, drop-of-length-le}
 use lib.Seq.{drop-cons, drop-drop, take-all}
-use lib.Dec.{eqb, leb}
+use lib.Dec.{eqb}
 use mir.Syntax.{w64}
 use mir.Val.{Fits}
-use borrow.Author.Tests.{eq-eqb, ne-eqb, lt-leb, le-leb}
+use borrow.Author.Tests.{eq-eqb, ne-eqb, eqb-true, lt-leb, le-leb}
 use Rattle.ascii.specs.Ascii.{Bytes, if_then_else_, _>>=_, all, isEmpty, beginsWith}
 use Rattle.fetch_record.specs.Record.{Redirect, Answer, Fetched, readRedirect, readAnswer, readEnd, inFront, readItems, inText, readRecord}
-use Rattle.fetch_record.specs.Meaning.{redirectOf, answerOf, redirectRead, answerRead, redirectIn, redirectAt, redirectsIn, Placed, endRead, behind, frontRead, FrontPlaced, no-front, front, Counts, layoutRead, LayoutPlaced, no-layout, without, with-answer, Lays}
+use Rattle.fetch_record.specs.Meaning.{redirectOf, redirectRead, answerRead, redirectIn, redirectAt, redirectsIn, Placed, endRead, behind, frontRead, FrontPlaced, no-front, front, Counts, layoutRead, no-layout, without, with-answer, Lays}
 use Rattle.fetch_record.specs.declared.item.Redirect.{Redirect as RedirectItem}
 use Rattle.fetch_record.specs.declared.item.Answer.{Answer as AnswerItem}
 use Rattle.fetch_record.specs.declared.item.RedirectBody.{RedirectBody}
@@ -25,9 +25,8 @@ use Rattle.fetch_record.specs.declared.End.{End}
 use Rattle.fetch_record.specs.declared.End.the-variants.{Unanswered as NoAnswer, Answered as OneAnswer, Malformed as BadEnd}
 use Rattle.fetch_record.specs.declared.Front.{Front}
 use Rattle.fetch_record.specs.declared.Front.the-variants.{Redirects, Malformed as BadFront}
-use Rattle.fetch_record.specs.declared.Layout.{Layout}
 use Rattle.fetch_record.specs.declared.Layout.the-variants.{Unanswered, Answered, Malformed}
-use Rattle.fetch_record.proofs.ItemLaws.{read-fields, body-fields, body-read, redirect-short}
+use Rattle.fetch_record.proofs.ItemLaws.{read-fields, body-read, redirect-short}
 
 -- ---- at most one answer, then the end
 
@@ -122,21 +121,40 @@ unfolding readItems
 items-other zero s e = refl
 items-other (suc n) s e = rw e
 
+-- what stands behind the redirects does not begin with the kind 1
+end-one : (s : Bytes) → beginsWith (1 ∷ []) s ≡ true → readEnd s ≡ none
+unfolding readEnd beginsWith
+end-one [] b = let z : _≡_ {A = ℕ} 0 1 = cc in absurd (omega arith)
+end-one (c ∷ s) b = let e : 1 ≡ c = eqb-true 1 c (sym (and-true (eqb 1 c)) ∙ b) in rw (← e)
+
+-- no more redirects may come: none, as readEnd has it
+module _ (lent s : Bytes) (b : beginsWith (1 ∷ []) s ≡ true) where
+  no-more : checked lent (readItems zero s) ≡ none
+  unfolding readItems
+  no-more = checked-end lent s ∙ end-one s b
+
 module _ (lent : Bytes) (n : ℕ) (s : Bytes) (b : beginsWith (1 ∷ []) s ≡ true) where
-  items-bad : readRedirect (drop 1 s) ≡ none → checked lent (readItems (suc n) s) ≡ none
+  items-is : (h : Redirect) → readRedirect (drop 1 s) ≡ some h → checked lent (readItems (suc n) s) ≡ checked lent (readItems n (drop 8 s) >>= λ f. some (inFront h f))
+  unfolding readItems
+  items-is h e = rw (b, e)
+
+  bad-next : readRedirect (drop 1 s) ≡ none → checked lent (readItems (suc n) s) ≡ none
   unfolding readItems checked
-  items-bad e = rw (b, e)
+  bad-next e = rw (b, e)
 
-  module _ (h : Redirect) (e : readRedirect (drop 1 s) ≡ some h) where
-    items-is : checked lent (readItems (suc n) s) ≡ checked lent (readItems n (drop 8 s) >>= λ f. some (inFront h f))
-    unfolding readItems
-    items-is = rw (b, e)
+  out-next : (h : Redirect) → readRedirect (drop 1 s) ≡ some h → inText lent h ≡ false → checked lent (readItems (suc n) s) ≡ none
+  out-next h e i = items-is h e ∙ checked-out lent h i (readItems n (drop 8 s))
 
-    items-out : inText lent h ≡ false → checked lent (readItems (suc n) s) ≡ none
-    items-out i = items-is ∙ checked-out lent h i (readItems n (drop 8 s))
+  items-more : (h : Redirect) → readRedirect (drop 1 s) ≡ some h → inText lent h ≡ true → checked lent (readItems (suc n) s) ≡ behind (h ∷ []) (checked lent (readItems n (drop 8 s)))
+  items-more h e i = items-is h e ∙ checked-in lent h i (readItems n (drop 8 s))
 
-    items-more : inText lent h ≡ true → checked lent (readItems (suc n) s) ≡ behind (h ∷ []) (checked lent (readItems n (drop 8 s)))
-    items-more i = items-is ∙ checked-in lent h i (readItems n (drop 8 s))
+items-bad : (lent : Bytes) (n : ℕ) (s : Bytes) → beginsWith (1 ∷ []) s ≡ true → readRedirect (drop 1 s) ≡ none → checked lent (readItems n s) ≡ none
+items-bad lent zero s b e = no-more lent s b
+items-bad lent (suc n) s b e = bad-next lent n s b e
+
+items-out : (lent : Bytes) (n : ℕ) (s : Bytes) → beginsWith (1 ∷ []) s ≡ true → (h : Redirect) → readRedirect (drop 1 s) ≡ some h → inText lent h ≡ false → checked lent (readItems n s) ≡ none
+items-out lent zero s b h e i = no-more lent s b
+items-out lent (suc n) s b h e i = out-next lent n s b h e i
 
 -- ---- the count of redirects
 
@@ -187,24 +205,21 @@ module _ {items lent : Bytes} {n : ℕ} (C : Counting items lent n) where
     unfolding beginsWith
     count-other k = stops (items-other (8 - n) (drop (8 * n) items) (rw (drop-cons items (8 * n) 0 h, ne-eqb 1 (getD items (8 * n) 0) (λ e. k (sym e)))))
 
-    module _ (l : n < 8) (k : getD items (8 * n) 0 ≡ 1) where
+    module _ (k : getD items (8 * n) 0 ≡ 1) where
       begins : beginsWith (1 ∷ []) (drop (8 * n) items) ≡ true
       unfolding beginsWith
       begins = rw (drop-cons items (8 * n) 0 h, eq-eqb 1 (getD items (8 * n) 0) (sym k))
 
-      fails : checked lent (readItems (suc (7 - n)) (drop (8 * n) items)) ≡ none → Counts items lent BadFront
+      fails : checked lent (readItems (8 - n) (drop (8 * n) items)) ≡ none → Counts items lent BadFront
       unfolding frontRead
-      fails e = let z : 8 - n ≡ suc (7 - n) = omega arith in record {
-        is = sym (rw (z, e, behind-none)) ∙ C .is;
-        places = no-front;
-      }
+      fails e = record { is = sym (rw (e, behind-none)) ∙ C .is; places = no-front }
 
       body : drop 1 (drop (8 * n) items) ≡ drop (8 * n + 1) items
       body = drop-drop 1 (8 * n) items
 
       pub count-short : length items - 8 * n < 8 → Counts items lent BadFront
       unfolding redirectRead
-      count-short m = fails (items-bad lent (7 - n) (drop (8 * n) items) begins (rw body (sym (redirect-short (drop (8 * n + 1) items) (omega (arith, length-drop (8 * n + 1) items))))))
+      count-short m = fails (items-bad lent (8 - n) (drop (8 * n) items) begins (rw body (sym (redirect-short (drop (8 * n + 1) items) (omega (arith, length-drop (8 * n + 1) items))))))
 
       module _ (q : RedirectBody) (m : 8 ≤ length items - 8 * n) (e : redirectRead q ≡ readRedirect (take (8 * n + 8 - (8 * n + 1)) (drop (8 * n + 1) items))) where
         told : readRedirect (drop 1 (drop (8 * n) items)) ≡ redirectRead q
@@ -215,7 +230,7 @@ module _ {items lent : Bytes} {n : ℕ} (C : Counting items lent n) where
 
         pub count-bad : q ≡ NoRedirectBody → Counts items lent BadFront
         unfolding redirectRead
-        count-bad f = fails (items-bad lent (7 - n) (drop (8 * n) items) begins (told ∙ ap redirectRead f))
+        count-bad f = fails (items-bad lent (8 - n) (drop (8 * n) items) begins (told ∙ ap redirectRead f))
 
         module _ {r : RedirectItem} {end : ℕ} (f : q ≡ IsRedirect r) (g : end ≡ r .start + r .size) where
           hop-is : readRedirect (drop 1 (drop (8 * n) items)) ≡ some (redirectOf r)
@@ -224,11 +239,11 @@ module _ {items lent : Bytes} {n : ℕ} (C : Counting items lent n) where
 
           pub count-out : length lent < end → Counts items lent BadFront
           unfolding inText redirectOf
-          count-out o = fails (items-out lent (7 - n) (drop (8 * n) items) begins (redirectOf r) hop-is (lt-leb (r .start + r .size) (length lent) (omega arith)))
+          count-out o = fails (items-out lent (8 - n) (drop (8 * n) items) begins (redirectOf r) hop-is (lt-leb (r .start + r .size) (length lent) (omega arith)))
 
-          pub count-more : end ≤ length lent → Counting items lent (n + 1)
+          pub count-more : n < 8 → end ≤ length lent → Counting items lent (n + 1)
           unfolding inText redirectOf redirectAt
-          count-more o =
+          count-more l o =
               let i : inText lent (redirectOf r) ≡ true = le-leb (r .start + r .size) (length lent) (omega arith) in
               let a : redirectOf r ≡ redirectAt n items = read-fields (drop 1 (drop (8 * n) items)) (redirectOf r) hop-is ∙ ap redirectIn body in
               let y : 8 - n ≡ suc (7 - n) = omega arith in

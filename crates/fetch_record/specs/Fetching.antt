@@ -1,5 +1,4 @@
 -- What record and text settle: refusal 4; then hop by hop 5 before 6; fetch, where the record has no answer (document 01).
-use mathlib.Core.List.{List, [], _∷_}
 use mathlib.Core.Option.{Option, none, some}
 use Rattle.ascii.specs.Ascii.{Bytes}
 use Rattle.refusals.specs.declared.Refusal.{Refusal}

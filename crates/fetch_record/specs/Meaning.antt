@@ -1,12 +1,12 @@
 -- What the answers of the code mean, in the terms of Record and Fetching.
 use mathlib.Core.Path.{_≡_}
-use mathlib.Core.Bool.{Bool, true, false}
+use mathlib.Core.Bool.{true}
 use mathlib.Core.List.{List, [], _∷_, _++_}
 use mathlib.Core.Option.{Option, none, some}
 use Prim.Native.Nat.{ℕ, zero, suc, _+_, _-_, _*_, _≤_}
 use lib.ListN.{length, take, drop, getD}
 use lib.Dec.{eqb}
-use Rattle.ascii.specs.Ascii.{Bytes, if_then_else_, _>>=_, all}
+use Rattle.ascii.specs.Ascii.{Bytes, _>>=_, all}
 use Rattle.refusals.specs.declared.Refusal.{Refusal}
 use Rattle.fetch_record.specs.Record.{Redirect, Answer, Fetched, number, readEnd, inText, lastLocation, readRecord}
 use Rattle.fetch_record.specs.Fetching.{Fetching, refused, fetch, answered}

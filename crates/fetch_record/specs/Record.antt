@@ -1,6 +1,6 @@
 -- The fetch record (document 01, "Fetch record and decision").
 use mathlib.Core.List.{List, [], _∷_, map, head?}
-use mathlib.Core.Bool.{Bool, true, false, _&&_, not}
+use mathlib.Core.Bool.{Bool, _&&_, not}
 use mathlib.Core.Option.{Option, none, some}
 use Prim.Native.Nat.{ℕ, zero, suc, _+_, _*_}
 use lib.ListN.{length, take, drop, getD}

@@ -35,7 +35,7 @@ fn big_endian(high: u8, low: u8) -> u16
 }
 
 // The place behind a Location.
-pub fn location_end(h: Redirect) -> usize
+pub(crate) fn location_end(h: Redirect) -> usize
     ensures { λ r. ⌜ r ≡ h .start + h .size ⌝ }
 {
     h.start as usize + h.size as usize
@@ -69,7 +69,8 @@ pub fn read_redirect(s: &[u8]) -> RedirectBody
     if 399 < status {
         return RedirectBody::Malformed;
     }
-    if 1 < s[2] {
+    let header = s[2];
+    if 1 < header {
         return RedirectBody::Malformed;
     }
     RedirectBody::Redirect(redirect_in(s))
@@ -83,11 +84,12 @@ pub fn read_answer(s: &[u8]) -> AnswerBody
         return AnswerBody::Malformed;
     }
     let status = big_endian(s[0], s[1]);
-    if 1 < s[2] {
+    let seen = s[2];
+    if 1 < seen {
         return AnswerBody::Malformed;
     }
     AnswerBody::Answer(Answer {
         status,
-        type_seen: s[2] == 1,
+        type_seen: seen == 1,
     })
 }

@@ -17,26 +17,26 @@ ghost use Rattle.fetch_record.specs.Fetching.{fetching};
 ghost use Rattle.fetch_record.specs.Meaning.{redirectOf, redirectAt, redirectsIn, endRead, Placed, Counts, Lays, hopsRead, outcomeOf, afterHopsOf, target, Targets};
 
 // What stands behind the redirects.
-pub enum End {
+enum End {
     Unanswered,
     Answered(Answer),
     Malformed,
 }
 
 // The redirects at the front of a record: how many they are.
-pub enum Front {
+enum Front {
     Redirects(usize),
     Malformed,
 }
 
 // A whole record: how many redirects, and the answer behind them.
-pub enum Layout {
+enum Layout {
     Unanswered(usize),
     Answered(usize, Answer),
     Malformed,
 }
 
-pub enum Hops {
+enum Hops {
     Passed,
     Refused(Refusal),
 }

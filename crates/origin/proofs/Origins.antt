@@ -10,6 +10,8 @@ use lib.Dec.{eqb, leb}
 use borrow.Author.Tests.{eqb-true, leb-true}
 use Rattle.ascii.specs.Ascii.{Bytes, if_then_else_, _>>=_, _when_, isNone, isEmpty, all, takeWhile, dropWhile, between, isDigit, isUpper, same, lowerByte, lower, beginsWith, beginsWithNoCase, text, value, number16}
 use Rattle.ascii.proofs.Compare.{length-lower}
+pub use Rattle.ascii.proofs.Compare.{same-eq}
+use Rattle.ascii.proofs.OptionLaws.{Holds, holds}
 use Rattle.ascii.proofs.Scan.{while-all, while-rest, while-length}
 use Rattle.suffix.specs.Host.{isHost}
 use Rattle.origin.specs.Origin.{Authority, beginsHttps, androidPrefix, iosPrefix, isPort, readPort, isHostByte, readHost, readHttps, webOrigin, isKeyHashByte, isAndroid, isIos, beginsNative, isNative, isFacet, shownPort, isTail, httpsUrl}
@@ -19,13 +21,6 @@ use Rattle.origin.specs.Parts.{isEnd}
 
 both : (a b : Bool) → (a && b) ≡ true → (a ≡ true) × (b ≡ true)
 both a b = and-eq-true-iff a b .0
-
-pub same-eq : (s t : Bytes) → same s t ≡ true → s ≡ t
-unfolding same
-same-eq [] [] e = refl
-same-eq [] (c ∷ t) e = let z : _≡_ {A = ℕ} 0 1 = cc in absurd (omega arith)
-same-eq (b ∷ s) [] e = let z : _≡_ {A = ℕ} 0 1 = cc in absurd (omega arith)
-same-eq (b ∷ s) (c ∷ t) e = let h = both (eqb b c) (same s t) e in ap₂ _∷_ (eqb-true b c (h .0)) (same-eq s t (h .1))
 
 pub begins-split : (p s : Bytes) → beginsWith p s ≡ true → s ≡ p ++ drop (length p) s
 unfolding beginsWith
@@ -40,14 +35,6 @@ while-split : (f : ℕ → Bool) (l : Bytes) → length (takeWhile f l) + length
 while-split f l = omega (arith, ap length (while-rest f l), length-drop (length (takeWhile f l)) l, while-length f l)
 
 -- ---- what is read
-
-abbrev Holds : {A : Type 0} → (A → Type 0) → Option A → Type 0
-Holds P none = Unit {0}
-Holds P (some a) = P a
-
-holds : {A : Type 0} (P : A → Type 0) (o : Option A) (a : A) → Holds P o → o ≡ some a → P a
-holds P none a h e = let z : _≡_ {A = ℕ} 0 1 = cc in absurd (omega arith)
-holds P (some b) a h e = let z : b ≡ a = cc in rw (← z) h
 
 abbrev PortRead : Bytes → Bytes → Authority → Type 0
 PortRead host s a =

@@ -10,6 +10,7 @@ use lib.Dec.{T, eqb, leb}
 use borrow.Author.Tests.{leb-true, leb-false, lt-leb, ne-eqb}
 use Rattle.ascii.specs.Ascii.{Bytes, if_then_else_, isEmpty, all, between, isDigit, isUpper, isLetter, same, lower, beginsWith, text}
 use Rattle.ascii.proofs.Bytes.{below, each}
+use Rattle.ascii.proofs.ListLaws.{all-append}
 use Rattle.suffix.specs.Host.{isLabelByte}
 use Rattle.origin.specs.Origin.{Authority, androidPrefix, iosPrefix, isPort, isHostByte, webOrigin, isKeyHashByte, isAndroid, isIos, isNative, isFacet, shownPort, normalWeb, normalForm}
 use Rattle.origin.specs.Normals.{isPlainByte}
@@ -72,11 +73,6 @@ unfolding all
 all-weaker f g h [] e = refl
 all-weaker f g h (b ∷ l) e = let p = and-eq-true-iff (f b) (all f l) .0 e in rw (h b (p .0), all-weaker f g h l (p .1))
 
-all-joined : (f : ℕ → Bool) (x y : Bytes) → all f x ≡ true → all f y ≡ true → all f (x ++ y) ≡ true
-unfolding all
-all-joined f [] y e h = h
-all-joined f (b ∷ x) y e h = let p = and-eq-true-iff (f b) (all f x) .0 e in rw (p .0, all-joined f x y (p .1) h)
-
 -- ---- web origins
 
 shown-plain : (p : Bytes) → (isEmpty p || isPort p) ≡ true → all isPlainByte (shownPort p) ≡ true
@@ -95,7 +91,7 @@ shown-plain p e = go (isEmpty p) refl (same p (text "443"))
     go : (u : Bool) → isEmpty p ≡ u → (v : Bool) → all isPlainByte (if u || v then [] else text ":" ++ p) ≡ true
     go true f v = none-plain
     go false f true = none-plain
-    go false f false = all-joined isPlainByte (text ":") p colon (digits f)
+    go false f false = all-append isPlainByte (text ":") p colon (digits f)
 
 https-plain : all isPlainByte (text "https://") ≡ true
 unfolding all isPlainByte
@@ -104,8 +100,8 @@ https-plain = refl
 web-plain : (a : Authority) (s : Bytes) → ReadOf s a → all isPlainByte (normalWeb a) ≡ true
 unfolding normalWeb
 web-plain a s R =
-    all-joined isPlainByte (text "https://" ++ lower (a .host)) (shownPort (a .port))
-    (all-joined isPlainByte (text "https://") (lower (a .host)) https-plain
+    all-append isPlainByte (text "https://" ++ lower (a .host)) (shownPort (a .port))
+    (all-append isPlainByte (text "https://") (lower (a .host)) https-plain
     (all-weaker isHostByte isPlainByte host-plain (lower (a .host)) (lower-bytes a (R .good-host) (R .host-bytes) (R .good-port))))
     (shown-plain (a .port) (R .good-port))
 
@@ -122,7 +118,7 @@ module _ (s : Bytes) where
       let h = and-eq-true-iff (beginsWith androidPrefix s && eqb (length (drop 21 s)) 27) (all isKeyHashByte (drop 21 s)) .0 e in
       let k = and-eq-true-iff (beginsWith androidPrefix s) (eqb (length (drop 21 s)) 27) .0 (h .0) in
       ap (all isPlainByte) (begins-split androidPrefix s (k .0))
-      ∙ all-joined isPlainByte androidPrefix (drop 21 s) (prefixes-plain .0) (all-weaker isKeyHashByte isPlainByte key-plain (drop 21 s) (h .1))
+      ∙ all-append isPlainByte androidPrefix (drop 21 s) (prefixes-plain .0) (all-weaker isKeyHashByte isPlainByte key-plain (drop 21 s) (h .1))
 
   ios-plain : isIos s ≡ true → all isPlainByte s ≡ true
   unfolding isIos
@@ -130,7 +126,7 @@ module _ (s : Bytes) where
       let h = and-eq-true-iff (beginsWith iosPrefix s && between 1 255 (length (drop 14 s))) (all isHostByte (drop 14 s)) .0 e in
       let k = and-eq-true-iff (beginsWith iosPrefix s) (between 1 255 (length (drop 14 s))) .0 (h .0) in
       ap (all isPlainByte) (begins-split iosPrefix s (k .0))
-      ∙ all-joined isPlainByte iosPrefix (drop 14 s) (prefixes-plain .1) (all-weaker isHostByte isPlainByte host-plain (drop 14 s) (h .1))
+      ∙ all-append isPlainByte iosPrefix (drop 14 s) (prefixes-plain .1) (all-weaker isHostByte isPlainByte host-plain (drop 14 s) (h .1))
 
   pub native-plain : isNative s ≡ true → all isPlainByte s ≡ true
   unfolding isNative

@@ -17,16 +17,18 @@ use Rattle.suffix.specs.Place.{Stands, endsAtLabel}
 use Rattle.suffix.specs.Suffix.{Rule, normal, exceptional, content, isSkipped, readRule, readLines, readTable, allMatch, matches, privateLabel}
 use Rattle.suffix.specs.Pass.{maxLabels, sizes, bestOf, oneRule, readLine, inLine, inContent, sizeOf, orEmpty, LabelAt}
 use Rattle.suffix.specs.Deeper.{goesDeeper, deeperIn, isDeeper}
-use Rattle.suffix.specs.Depth.{depthOf, deepest, lineDepth, linesDepth, depthsOf, Good, Tail, deeperThan, LabelFound}
+use Rattle.suffix.specs.Depth.{depthOf, deepest, lineDepth, linesDepth, depthsOf, Good, Tail, deeperThan, LabelFound, OwnerIs, bad-table, owner-is}
 use Rattle.suffix.specs.declared.Best.{Best}
 use Rattle.suffix.specs.declared.Best.the-variants.{Bad, Sizes}
+use Rattle.suffix.specs.declared.Owner.{Owner}
+use Rattle.suffix.specs.declared.Owner.the-variants.{BadTable, Label}
 use Rattle.suffix.specs.declared.Depths.{Depths}
 use Rattle.suffix.specs.declared.Depths.the-variants.{Wrong, Found}
 use Rattle.suffix.proofs.Ends.{both-ways, true-false, same-eq, labels-some, wild}
 use Rattle.suffix.proofs.Speed.{length-last, last-last, deep-match, last-names}
 use Rattle.suffix.proofs.Lines.{rule-host, rule-wild, rule-wild-long, rule-wild-bad, rule-exception, rule-exception-one, rule-exception-bad, rule-star, begins-is, rest-whole, empty-skipped, comment-skipped, other-read}
 use Rattle.suffix.proofs.Passes.{lines-on, next-line, Pass, pass-starts, pass-ends, pass-bad, pass-more}
-use Rattle.suffix.proofs.Answers.{at-bad, at-label, at-whole, labelled}
+use Rattle.suffix.proofs.Answers.{at-malformed, at-address, at-bad, at-label, at-whole, labelled}
 use Rattle.suffix.proofs.Owned.{label-some}
 use Rattle.suffix.proofs.Deepens.{wild-goes}
 
@@ -335,16 +337,32 @@ no-label table host L = go (privateLabel table host) refl (sym (drop-length host
     go (some l) p e = absurd (omega (arith, ap length e, label-some table host l p))
 
 module _ (table host : Bytes) where
-  pub found-none : LabelAt table host (length host) → LabelFound table host (record { start = length host; deeper = false })
+  none-found : LabelAt table host (length host) → LabelFound table host (length host) false
   unfolding deeperThan
-  found-none L = record { place = L; deeper = rw (no-label table host L) }
+  none-found L = record { place = L; deeper-is = rw (no-label table host L) }
 
-  pub found-wrong : {q : Depths} → q ≡ depthsOf (labels host) (readTable table) → q ≡ Wrong → LabelAt table host (length host)
-  found-wrong t w = at-bad table host {q = bestOf (labels host) (readTable table)} refl (go (readTable table) (sym w ∙ t))
+  pub owner-bad : {q : Depths} → q ≡ depthsOf (labels host) (readTable table) → q ≡ Wrong → OwnerIs table host BadTable
+  owner-bad t w = bad-table (go (readTable table) (sym w ∙ t))
     where
-      go : (o : Option (List Rule)) → Wrong ≡ depthsOf (labels host) o → bestOf (labels host) o ≡ Bad
-      go none e = unfold bestOf in refl
+      go : (o : Option (List Rule)) → Wrong ≡ depthsOf (labels host) o → o ≡ none
+      go none e = refl
       go (some rs) e = unfold depthsOf in (let z : _≡_ {A = ℕ} 0 1 = cc in absurd (omega arith))
+
+  good-table : (e m d : ℕ) (o : Option (List Rule)) → Found e m d ≡ depthsOf (labels host) o → isNone o ≡ false
+  unfolding depthsOf
+  good-table e m d none f = let z : _≡_ {A = ℕ} 0 1 = cc in absurd (omega arith)
+  good-table e m d (some rs) f = refl
+
+  pub start-bad : {q : Owner} → OwnerIs table host q → q ≡ BadTable → LabelAt table host (length host)
+  start-bad (bad-table t) e = at-bad table host {q = bestOf (labels host) (readTable table)} refl (rw t none-best)
+    where
+      none-best : bestOf (labels host) none ≡ Bad
+      none-best = unfold bestOf in refl
+  start-bad (owner-is t L) e = let z : _≡_ {A = ℕ} 0 1 = cc in absurd (omega arith)
+
+  pub start-owner : {q : Owner} {start : ℕ} {deeper : Bool} → OwnerIs table host q → q ≡ Label start deeper → LabelAt table host start
+  start-owner (bad-table t) e = let z : _≡_ {A = ℕ} 0 1 = cc in absurd (omega arith)
+  start-owner {start} (owner-is {start = i} t L) e = let z : i ≡ start = cc in rw (← z) (L .place)
 
   to-best : (e m d : ℕ) (o : Option (List Rule)) → Found e m d ≡ depthsOf (labels host) o → Sizes e m ≡ bestOf (labels host) o
   unfolding bestOf sizes depthsOf
@@ -362,20 +380,32 @@ module _ (table host : Bytes) where
   leb-ltb : (n d : ℕ) → ltb n d ≡ leb (n + 1) d
   leb-ltb n d = both-ways (ltb n d) (leb (n + 1) d) (λ t. let x = ltb-true n d t in le-leb (n + 1) d (omega arith)) (λ t. let x = leb-true (n + 1) d t in lt-ltb n d (omega arith))
 
-  module _ {a b : Bool} {q : Depths} {e m d n k : ℕ} (h : a ≡ isHost host) (h′ : a ≡ true) (i : b ≡ isAddress (labels host)) (i′ : b ≡ false)
-      (t : q ≡ depthsOf (labels host) (readTable table)) (t′ : q ≡ Found e m d) (s : n ≡ sizeOf e m) (c : k ≡ length (labels host)) where
-    pub found-whole : k ≤ n → LabelAt table host (length host)
-    found-whole l = at-whole table host h h′ i i′ (to-best e m d (readTable table) (sym t′ ∙ t)) refl s c l
+  module _ {q : Depths} {e m d : ℕ} (t : q ≡ depthsOf (labels host) (readTable table)) (t′ : q ≡ Found e m d) where
+    good-is : isNone (readTable table) ≡ false
+    good-is = good-table e m d (readTable table) (sym t′ ∙ t)
 
-    pub found-label : {r : ℕ} → n < k → Stands (lastOf (n + 1) (labels host)) host r → LabelFound table host (record { start = r; deeper = ltb n d })
-    found-label l S = record {
-      place = at-label table host h h′ i i′ (to-best e m d (readTable table) (sym t′ ∙ t)) refl s c l S;
-      deeper = leb-ltb n d ∙ to-depth e m d (n + 1) (readTable table) (sym t′ ∙ t) (omega arith) (omega arith)
-          ∙ sym (rw (labelled table host h h′ i i′ (to-best e m d (readTable table) (sym t′ ∙ t)) refl s c l) deep);
-    }
-      where
-        deep : deeperThan table (some (joinWith 46 (lastOf (n + 1) (labels host)))) ≡ deeperIn (lastOf (n + 1) (labels host)) (readTable table)
-        deep = unfold deeperThan isDeeper in (ap (λ (ls : List Bytes). deeperIn ls (readTable table)) (last-names host (n + 1) (omega arith)))
+    best : Sizes e m ≡ bestOf (labels host) (readTable table)
+    best = to-best e m d (readTable table) (sym t′ ∙ t)
+
+    pub owner-malformed : {a : Bool} → a ≡ isHost host → a ≡ false → OwnerIs table host (Label (length host) false)
+    owner-malformed h h′ = owner-is good-is (none-found (at-malformed table host h h′))
+
+    pub owner-address : {b : Bool} → b ≡ isAddress (labels host) → b ≡ true → OwnerIs table host (Label (length host) false)
+    owner-address i i′ = owner-is good-is (none-found (at-address table host i i′))
+
+    module _ {a b : Bool} {n k : ℕ} (h : a ≡ isHost host) (h′ : a ≡ true) (i : b ≡ isAddress (labels host)) (i′ : b ≡ false) (s : n ≡ sizeOf e m) (c : k ≡ length (labels host)) where
+      pub owner-whole : k ≤ n → OwnerIs table host (Label (length host) false)
+      owner-whole l = owner-is good-is (none-found (at-whole table host h h′ i i′ best refl s c l))
+
+      pub owner-label : {r : ℕ} → n < k → Stands (lastOf (n + 1) (labels host)) host r → OwnerIs table host (Label r (ltb n d))
+      owner-label l S = owner-is good-is (record {
+        place = at-label table host h h′ i i′ best refl s c l S;
+        deeper-is = leb-ltb n d ∙ to-depth e m d (n + 1) (readTable table) (sym t′ ∙ t) (omega arith) (omega arith)
+            ∙ sym (rw (labelled table host h h′ i i′ best refl s c l) deep);
+      })
+        where
+          deep : deeperThan table (some (joinWith 46 (lastOf (n + 1) (labels host)))) ≡ deeperIn (lastOf (n + 1) (labels host)) (readTable table)
+          deep = unfold deeperThan isDeeper in (ap (λ (ls : List Bytes). deeperIn ls (readTable table)) (last-names host (n + 1) (omega arith)))
 
 pub wild-goes-is : (v w : Bytes) {q : Bool} → isHost w ≡ true → q ≡ endsAtLabel v w → q ≡ goesDeeper (labels v) (normal ((42 ∷ []) ∷ labels w))
 wild-goes-is v w h e = e ∙ wild-goes v w h

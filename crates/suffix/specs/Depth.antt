@@ -7,12 +7,13 @@ use Prim.Native.Nat.{ℕ, suc, max}
 use lib.ListN.{length}
 use Rattle.ascii.specs.Ascii.{Bytes, if_then_else_, isNone, filterBy, lastOf}
 use Rattle.suffix.specs.Host.{labels}
-use Rattle.suffix.specs.Suffix.{Rule, content, matches, privateLabel}
+use Rattle.suffix.specs.Suffix.{Rule, content, readTable, matches, privateLabel}
 use Rattle.suffix.specs.Pass.{maxLabels, readLine, LabelAt}
 use Rattle.suffix.specs.Deeper.{goesDeeper, isDeeper}
 use Rattle.suffix.specs.declared.Depths.{Depths}
 use Rattle.suffix.specs.declared.Depths.the-variants.{Wrong, Found}
-use Rattle.suffix.specs.declared.Labelled.{Labelled}
+use Rattle.suffix.specs.declared.Owner.{Owner}
+use Rattle.suffix.specs.declared.Owner.the-variants.{BadTable, Label}
 
 -- the most last labels of the host that the rule goes deeper than
 unfoldable pub depthOf : List Bytes → Rule → ℕ
@@ -50,6 +51,11 @@ unfoldable pub deeperThan : Bytes → Option Bytes → Bool
 deeperThan table none = false
 deeperThan table (some label) = isDeeper table label
 
-pub record LabelFound (table host : Bytes) (r : Labelled) : Type 0 where
-  pub place : LabelAt table host (r .start)
-  pub deeper : r .deeper ≡ deeperThan table (privateLabel table host)
+-- where the label begins, and whether a rule goes deeper
+pub record LabelFound (table host : Bytes) (start : ℕ) (deeper : Bool) : Type 0 where
+  pub place : LabelAt table host start
+  pub deeper-is : deeper ≡ deeperThan table (privateLabel table host)
+
+pub data OwnerIs (table host : Bytes) : Owner → Type 0 where
+  bad-table : readTable table ≡ none → OwnerIs table host BadTable
+  owner-is : {start : ℕ} {deeper : Bool} → isNone (readTable table) ≡ false → LabelFound table host start deeper → OwnerIs table host (Label start deeper)

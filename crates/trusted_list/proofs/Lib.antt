@@ -7,3 +7,5 @@ pub mod LevelLaws
 pub mod SelectLaws
 pub mod EntryLaws
 pub mod Laws
+pub mod Bound
+pub mod Acceptance

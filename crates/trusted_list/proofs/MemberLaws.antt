@@ -1,14 +1,15 @@
 -- The ways through a member, and through the members of one or two names.
 use mathlib.Core.Path.{_≡_, refl, sym, ap, ap₂, _∙_}
-use mathlib.Core.Bool.{Bool, true, false, _&&_, and-eq-true-iff}
+use mathlib.Core.Bool.{Bool, true, false}
 use mathlib.Core.List.{List, [], _∷_, _++_, append-nil}
 use mathlib.Core.Option.{Option, none, some}
 use Prim.Native.Nat.{ℕ, zero, suc, _+_, _≤_, _<_}
 use native.Mathlib.Omega.{arith}
 use lib.Dec.{eqb, leb}
 use lib.ListN.{length, drop}
-use borrow.Author.Tests.{eqb-true, le-leb, leb-false}
+use borrow.Author.Tests.{le-leb, leb-false}
 use Rattle.ascii.specs.Ascii.{Bytes, if_then_else_, same, text}
+use Rattle.ascii.proofs.Compare.{same-eq}
 use Rattle.json_text.specs.Reader.{Read, got, bad, Reader, more, _>>=_, _>>_, give, oneOf, mapped}
 use Rattle.json_text.specs.Lexical.{ws, readString}
 use Rattle.json_text.specs.Places.{Peeked, readAt, placeOf, fit, contentOf, isText}
@@ -102,17 +103,6 @@ unnamed p s i e = go (readAt (readMember p) s i) refl
 
 -- ---- one name
 
-same-is : (x y : Bytes) → same x y ≡ true → x ≡ y
-unfolding same
-same-is [] [] e = refl
-same-is [] (c ∷ y) e = let z : _≡_ {A = ℕ} 0 1 = cc in absurd (omega arith)
-same-is (b ∷ x) [] e = let z : _≡_ {A = ℕ} 0 1 = cc in absurd (omega arith)
-same-is (b ∷ x) (c ∷ y) e =
-    let h = and-eq-true-iff (eqb b c) (same x y) .0 e in
-    let p : b ≡ c = eqb-true b c (h .0) in
-    let q : x ≡ y = same-is x y (h .1) in
-    rw (p, q)
-
 same-fits : (n name : Bytes) → length name ≤ 512 → isText (fit n) name ≡ same n name
 unfolding fit isText
 same-fits n name l = go (leb (length n) 512) refl (same n name) refl
@@ -120,7 +110,7 @@ same-fits n name l = go (leb (length n) 512) refl (same n name) refl
     go : (u : Bool) → leb (length n) 512 ≡ u → (v : Bool) → same n name ≡ v → isText (if u then some n else none) name ≡ same n name
     go true e v f = refl
     go false e false f = sym f
-    go false e true f = absurd (omega (arith, leb-false (length n) 512 e, ap length (same-is n name f)))
+    go false e true f = absurd (omega (arith, leb-false (length n) 512 e, ap length (same-eq n name f)))
 
 pub record Short (name : Bytes) : Type 0 where
   pub is : length name ≤ 512
@@ -207,7 +197,7 @@ module _ (s : Bytes) (at d : ℕ) {x : Two} {q : Next} (e : q ≡ placeOf (readA
         let H = slot-has E g in
         let M = member-at s at d e h (H .read) in
         let u : same (M .name) a ≡ true = sym (is-named a (M .is-name) (A .first-short) c) ∙ f in
-        let v : same (M .name) b ≡ false = ap (λ (n : Bytes). same n b) (same-is (M .name) a u) ∙ A .differ in
+        let v : same (M .name) b ≡ false = ap (λ (n : Bytes). same n b) (same-eq (M .name) a u) ∙ A .differ in
         is-two (record {
           value = (M .name, H .value);
           read = M .reads;

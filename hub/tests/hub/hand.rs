@@ -6,7 +6,6 @@ use crate::{
     make::{json::Json, record},
     model::decision::{code, Answer},
 };
-use facets_hub::clean;
 
 /// The rules of document 01's label cases.
 pub const TABLE: &str = "com\nhosting.example.com\n*.ck\n!www.ck\n";
@@ -74,14 +73,14 @@ impl Case {
     /// Asserts that cleaning keeps just these entries, in normal form.
     #[track_caller]
     pub fn keeps(&self, forms: &[&str]) {
-        let Case { appid, major, minor, body, table, .. } = self;
+        let Case { major, minor, .. } = self;
         let quoted: Vec<String> = forms.iter().map(|form| format!("\"{form}\"")).collect();
         let list = format!(
             r#"{{"trustedFacets":[{{"version":{{"major":{major},"minor":{minor}}},"ids":[{}]}}]}}"#,
             quoted.join(",")
         );
         let mut out = vec![b'#'; list.len() + 1];
-        assert_eq!(clean(appid, *major, *minor, body, table, &mut out), Ok(list.len()), "{self:?}");
+        assert_eq!(self.cleaning().clean(&mut out), Ok(list.len()), "{self:?}");
         assert_eq!(shown(&out), shown(format!("{list}#").as_bytes()), "{self:?}");
         assert_eq!(check::cleaning(self, &out), Ok(list.len()));
     }

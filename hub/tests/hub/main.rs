@@ -3,6 +3,7 @@
 
 mod case;
 mod check;
+#[cfg(feature = "cleaning")]
 mod cleaning;
 mod decision;
 mod hand;
@@ -13,4 +14,5 @@ mod model;
 mod published;
 mod random;
 mod stack;
+#[cfg(feature = "cleaning")]
 mod whole;

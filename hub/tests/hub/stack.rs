@@ -113,19 +113,27 @@ fn worst() -> Vec<(&'static str, Case)> {
 
 #[test]
 fn every_call_takes_at_most_64_kib_of_stack() {
-    use facets_hub::{clean, decision_code, decision_code_with_place, fetch_location, private_label, tally};
+    #[cfg(feature = "cleaning")]
+    use facets_hub::{clean, tally};
+    use facets_hub::{decision_code, decision_code_with_place, fetch_location, private_label};
     let mut most = [
         ("private_label", 0),
         ("decide", 0),
         ("decide_place", 0),
         ("fetch_location", 0),
+        #[cfg(feature = "cleaning")]
         ("clean", 0),
+        #[cfg(feature = "cleaning")]
         ("tally", 0),
     ];
     let nothing = used(|| ());
     for (name, case) in worst() {
-        let Case { caller, appid, major, minor, record, text, body, table } = &case;
-        let (inputs, mut place, mut out) = (case.decision(), 0, vec![0; 65_536]);
+        let Case { caller, appid, record, text, table, .. } = &case;
+        #[cfg(feature = "cleaning")]
+        let Case { major, minor, body, .. } = &case;
+        let (inputs, mut place) = (case.decision(), 0);
+        #[cfg(feature = "cleaning")]
+        let mut out = vec![0; 65_536];
         let unanswered = &record[..64];
         let host = &appid[8..253 + 8];
         let taken = [
@@ -133,7 +141,9 @@ fn every_call_takes_at_most_64_kib_of_stack() {
             used(|| decision_code(&inputs)),
             used(|| decision_code_with_place(&inputs, &mut place)),
             used(|| fetch_location(caller, appid, unanswered, text).len()),
+            #[cfg(feature = "cleaning")]
             used(|| clean(appid, *major, *minor, body, table, &mut out)),
+            #[cfg(feature = "cleaning")]
             used(|| tally(appid, *major, *minor, body, table)),
         ];
         println!("stack, {name}: {taken:?} bytes");

@@ -1,5 +1,6 @@
 -- `fetch_record::count_redirects` meets its contract. Assumes nothing.
-use Prim.Native.Nat.{_-_}
+use Prim.Native.Nat.{_-_, _*_}
+use lib.ListN.{length}
 use Rattle.fetch_record.proofs.RecordLaws.{Counting}
 use Rattle.fetch_record.proofs.Laws.{record-laws}
 use Rattle.fetch_record.proofs.count_redirects.Statement.{statement}
@@ -9,7 +10,7 @@ abbrev Inv-loop : tie.InvT-loop
 Inv-loop items text n₀ n = Counting items text n
 
 abbrev μ-loop : tie.MeasureT-loop
-μ-loop items text n₀ n = 8 - n
+μ-loop items text n₀ n = length items - 8 * n
 
 pub count-redirects-spec : {M : Type 1} → statement M
 count-redirects-spec =

@@ -15,11 +15,9 @@ read-answer-spec =
     (λ c. search item-laws)
     {- big-endian-requires -}
     (λ c κs. search item-laws)
-    {- shared-slice-read-if2 -}
+    {- shared-slice-read-seen -}
     (λ c. search item-laws)
     {- returns-2 -}
-    (λ c. search item-laws)
-    {- shared-slice-read-t8 -}
     (λ c. search item-laws)
     {- returns-3 -}
     (λ c. search item-laws))

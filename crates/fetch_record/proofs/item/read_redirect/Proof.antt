@@ -19,7 +19,7 @@ read-redirect-spec =
     (λ c. search item-laws)
     {- returns-3 -}
     (λ c. search item-laws)
-    {- shared-slice-read-if4 -}
+    {- shared-slice-read-header -}
     (λ c. search item-laws)
     {- returns-4 -}
     (λ c. search item-laws)

@@ -1,0 +1,5 @@
+pub mod OwnerLaws
+pub mod CauseLaws
+pub mod Laws
+pub mod KeptTests
+pub mod KeptNormal

@@ -1,0 +1,43 @@
+-- Why an entry is discarded, and which entries are kept (document 01, "The list").
+use mathlib.Core.List.{List, [], _∷_}
+use mathlib.Core.Bool.{Bool, true, false, _||_, not}
+use mathlib.Core.Option.{Option, none, some}
+use Prim.Native.Nat.{ℕ}
+use lib.ListN.{length}
+use lib.Dec.{ltb}
+use Rattle.ascii.specs.Ascii.{Bytes, if_then_else_, _>>=_, isNone, filterBy, sameNoCase}
+use Rattle.suffix.specs.Suffix.{privateLabel}
+use Rattle.origin.specs.Origin.{Authority, beginsHttps, beginsNative, httpsUrl, webOrigin, isFacet}
+
+-- causes 1 to 4
+pub data Cause : Type 0 where
+  tooLong otherScheme notFacet otherLabel : Cause
+
+-- the AppID's private label; an AppID that is no HTTPS URL has none
+unfoldable pub appLabel : Bytes → Bytes → Option Bytes
+appLabel table appid = httpsUrl appid >>= λ u. privateLabel table (u .host)
+
+-- both exist and are equal
+unfoldable pub labelsAgree : Option Bytes → Option Bytes → Bool
+labelsAgree none none = false
+labelsAgree none (some m) = false
+labelsAgree (some l) none = false
+labelsAgree (some l) (some m) = sameNoCase l m
+
+-- a web origin, where its host or the AppID's has no private label or the two labels are unequal
+unfoldable pub isOtherLabel : Bytes → Bytes → Option Authority → Bool
+isOtherLabel appid table none = false
+isOtherLabel appid table (some o) = not (labelsAgree (privateLabel table (o .host)) (appLabel table appid))
+
+-- the first cause that holds; none: the entry is kept
+unfoldable pub cause : Bytes → Bytes → Bytes → Option Cause
+cause appid table entry =
+    if ltb 512 (length entry) then some tooLong else
+    if not (beginsHttps entry || beginsNative entry) then some otherScheme else
+    if not (isFacet entry) then some notFacet else
+    if isOtherLabel appid table (webOrigin entry) then some otherLabel else
+    none
+
+-- all others are kept, in order, repeats included
+unfoldable pub kept : Bytes → Bytes → List Bytes → List Bytes
+kept appid table entries = filterBy (λ e. isNone (cause appid table e)) entries

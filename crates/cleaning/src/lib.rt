@@ -1,0 +1,1 @@
+// Cleaning and tally: the definitions stand in specs/, the theorems over them in proofs/.

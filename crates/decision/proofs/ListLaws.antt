@@ -1,0 +1,235 @@
+-- What the list settles, the whole decision, and the fetch location.
+use mathlib.Core.Path.{_≡_, refl, sym, ap, _∙_}
+use mathlib.Core.Bool.{Bool, true, false, _&&_, not}
+use mathlib.Core.List.{List, [], _∷_}
+use mathlib.Core.Option.{Option, none, some, Option·getD}
+use Prim.Native.Nat.{ℕ, _+_, _-_, _≤_, _<_}
+use native.Mathlib.Omega.{arith}
+use lib.Dec.{eqb}
+use lib.ListN.{length, take, drop}
+use borrow.Author.Tests.{eq-eqb, ne-eqb}
+use Rattle.ascii.specs.Ascii.{Bytes, if_then_else_, _when_, _orElse_, isNone}
+use Rattle.suffix.specs.Suffix.{Rule, readTable}
+use Rattle.origin.specs.Parts.{part}
+use Rattle.refusals.specs.declared.Refusal.{Refusal}
+use Rattle.refusals.specs.declared.Refusal.the-variants.{NotFetched, WrongType, BadTable, NotListed}
+use Rattle.trusted_list.specs.TrustedList.{listRefusal, entries}
+use Rattle.trusted_list.specs.Slots.{idsAt, Answers, is-refused, is-selected}
+use Rattle.trusted_list.specs.declared.Selection.{Selection}
+use Rattle.trusted_list.specs.declared.Selection.the-variants.{Refused as ListRefused, Ids}
+use Rattle.fetch_record.specs.Record.{readRecord, lastLocation}
+use Rattle.fetch_record.specs.Meaning.{answerOf as responseOf, target, partIn, TargetPlaced, Targets}
+use Rattle.fetch_record.specs.declared.item.Answer.{Answer as Response}
+use Rattle.fetch_record.specs.declared.Target.{Target}
+use Rattle.fetch_record.specs.declared.Target.the-variants.{NoRedirect, Part}
+use Rattle.fetch_record.proofs.CallerLaws.{target-start, target-end, target-some, target-none}
+use Rattle.causes.specs.Causes.{kept}
+use Rattle.causes.specs.Owner.{Owns, OwnedBy, bad-table, owned}
+use Rattle.causes.specs.declared.AppOwner.{AppOwner}
+use Rattle.causes.specs.declared.AppOwner.the-variants.{BadTable as NoTable, Label}
+use Rattle.decision.specs.Answer.{refused}
+use Rattle.decision.specs.Decide.{settled, listDue, beforeList, firstMatch, lateRefusal, byPlace, unless, byList, decide}
+use Rattle.decision.specs.Location.{fetchFrom, ifFetch, fetchLocation}
+use Rattle.decision.specs.Meaning.{answerOf, stageOf, Owned, IdsThere, entriesAt, matchOf, byEntries, locationOf, Inside, no-place, app-place, text-place, Locates}
+use Rattle.decision.specs.declared.Answer.{Answer}
+use Rattle.decision.specs.declared.Answer.the-variants.{Rule1, Rule2, Rule3, Rule4, Fetch, Refused}
+use Rattle.decision.specs.declared.Stage.{Stage}
+use Rattle.decision.specs.declared.Stage.the-variants.{Settled, ListDue}
+use Rattle.decision.specs.declared.Match.{Match}
+use Rattle.decision.specs.declared.Match.the-variants.{At as MatchAt, Nowhere}
+use Rattle.decision.specs.declared.Location.{Location}
+use Rattle.decision.specs.declared.Location.the-variants.{Nothing, AppId, Text}
+
+-- ---- the place
+
+module _ (m : Match) where
+  pub match-some : {n : ℕ} → m ≡ MatchAt n → answerOf (Rule4 n) ≡ byPlace (matchOf m)
+  unfolding answerOf matchOf
+  match-some e = rw e
+
+  pub match-none : m ≡ Nowhere → answerOf (Refused NotListed) ≡ byPlace (matchOf m)
+  unfolding answerOf matchOf
+  match-none e = rw e
+
+-- ---- the ids
+
+module _ (caller appid table : Bytes) (es : List Bytes) {w : AppOwner} (O : OwnedBy appid table w) where
+  pub ids-bad : w ≡ NoTable → answerOf (Refused BadTable) ≡ byEntries caller appid table es
+  ids-bad h = go O h
+    where
+      go : {w : AppOwner} → OwnedBy appid table w → w ≡ NoTable → answerOf (Refused BadTable) ≡ byEntries caller appid table es
+      go (bad-table t) h = unfold answerOf byEntries in (rw t)
+      go (owned a b c d) h = let z : _≡_ {A = ℕ} 0 1 = cc in absurd (omega arith)
+
+  module _ {i j : ℕ} {d : Bool} (h : w ≡ Label i j d) where
+    pub ids-owned : Owned appid table i j d
+    ids-owned = go O h
+      where
+        go : {w : AppOwner} → OwnedBy appid table w → w ≡ Label i j d → Owned appid table i j d
+        go (bad-table t) h = let z : _≡_ {A = ℕ} 0 1 = cc in absurd (omega arith)
+        go (owned {start} {end} {deeper} a b c o) h =
+            let x : start ≡ i = cc in
+            let y : end ≡ j = cc in
+            let z : deeper ≡ d = cc in
+            rw (← x, ← y, ← z) (record { low = b; high = c; is = unfold part in o })
+
+    pub ids-matched : (m : Match) (r : Answer) → matchOf m ≡ firstMatch caller (kept appid table es) → answerOf r ≡ byPlace (matchOf m) → answerOf r ≡ byEntries caller appid table es
+    ids-matched m r e f = go O h
+      where
+        by : (o : Option (List Rule)) → readTable table ≡ o → isNone o ≡ false → byPlace (firstMatch caller (kept appid table es)) ≡ byEntries caller appid table es
+        by none t n = let z : _≡_ {A = ℕ} 0 1 = cc in absurd (omega arith)
+        by (some rs) t n = unfold byEntries in (rw t)
+
+        go : {w : AppOwner} → OwnedBy appid table w → w ≡ Label i j d → answerOf r ≡ byEntries caller appid table es
+        go (bad-table t) h = let z : _≡_ {A = ℕ} 0 1 = cc in absurd (omega arith)
+        go (owned a b c o) h = f ∙ ap byPlace e ∙ by (readTable table) refl a
+
+-- ---- refusals 7 to 13
+
+refused-is : (x : Refusal) → answerOf (Refused x) ≡ refused x
+unfolding answerOf
+refused-is x = refl
+
+entries-of : (body : Bytes) (ids : ℕ) {xs : List Bytes} → idsAt body ids ≡ some xs → entriesAt body ids ≡ xs
+unfolding entriesAt
+entries-of body ids e = rw e
+
+module _ (caller appid : Bytes) (major minor : ℕ) (body table : Bytes) (a : Response) where
+  pub late-status : (a .status ≡ 200 → ⊥) → answerOf (Refused NotFetched) ≡ byList caller appid major minor body table (listDue (responseOf a))
+  unfolding answerOf byList lateRefusal responseOf
+  late-status n = rw (ne-eqb (a .status) 200 n)
+
+  module _ (s : a .status ≡ 200) where
+    pub late-type : a .«type_seen» ≡ false → answerOf (Refused WrongType) ≡ byList caller appid major minor body table (listDue (responseOf a))
+    unfolding answerOf byList lateRefusal responseOf
+    late-type n = rw (eq-eqb (a .status) 200 s, n)
+
+    module _ (t : a .«type_seen» ≡ true) {q : Selection} (A : Answers major minor body q) where
+      by-refusal : (o : Option Refusal) → listRefusal major minor body ≡ o
+          → byList caller appid major minor body table (listDue (responseOf a))
+          ≡ unless (o orElse (BadTable when isNone (readTable table))) (byPlace (firstMatch caller (kept appid table (entries major minor body))))
+      unfolding byList lateRefusal responseOf
+      by-refusal o e = rw (eq-eqb (a .status) 200 s, t, e)
+
+      pub late-refused : {x : Refusal} → q ≡ ListRefused x → answerOf (Refused x) ≡ byList caller appid major minor body table (listDue (responseOf a))
+      late-refused {x} h = go A h
+        where
+          go : {q : Selection} → Answers major minor body q → q ≡ ListRefused x → answerOf (Refused x) ≡ byList caller appid major minor body table (listDue (responseOf a))
+          go (is-refused {r} e) h = let y : r ≡ x = cc in refused-is x ∙ sym (by-refusal (some r) e ∙ ap refused y)
+          go (is-selected e f) h = let z : _≡_ {A = ℕ} 0 1 = cc in absurd (omega arith)
+
+      module _ {p : ℕ} (h : q ≡ Ids p) where
+        pub late-there : IdsThere body p
+        late-there = go A h
+          where
+            go : {q : Selection} → Answers major minor body q → q ≡ Ids p → IdsThere body p
+            go (is-refused e) h = let z : _≡_ {A = ℕ} 0 1 = cc in absurd (omega arith)
+            go (is-selected {p = i} e f) h = let y : i ≡ p = cc in record { all = entries major minor body; is = ap (idsAt body) (sym y) ∙ f }
+
+        pub late-ids : (r : Answer) → answerOf r ≡ byEntries caller appid table (entriesAt body p) → answerOf r ≡ byList caller appid major minor body table (listDue (responseOf a))
+        late-ids r g = go A h
+          where
+            by : (o : Option (List Rule)) → readTable table ≡ o → byEntries caller appid table (entries major minor body)
+                ≡ unless (BadTable when isNone o) (byPlace (firstMatch caller (kept appid table (entries major minor body))))
+            by none t = unfold byEntries in (rw t)
+            by (some rs) t = unfold byEntries in (rw t)
+
+            go : {q : Selection} → Answers major minor body q → q ≡ Ids p → answerOf r ≡ byList caller appid major minor body table (listDue (responseOf a))
+            go (is-refused e) h = let z : _≡_ {A = ℕ} 0 1 = cc in absurd (omega arith)
+            go (is-selected {p = i} e f) h =
+                let y : i ≡ p = cc in
+                let x : entriesAt body p ≡ entries major minor body = entries-of body p (ap (idsAt body) (sym y) ∙ f) in
+                g ∙ ap (byEntries caller appid table) x ∙ by (readTable table) refl ∙ sym (by-refusal none e)
+
+-- ---- the decision
+
+module _ (caller appid : Bytes) (major minor : ℕ) (items lent body table : Bytes) (q : Stage) (e : stageOf q ≡ beforeList caller appid items lent) where
+  pub decide-settled : {a : Answer} → q ≡ Settled a → answerOf a ≡ decide caller appid major minor items lent body table
+  unfolding decide stageOf byList
+  decide-settled h = let x = rw h at e in rw (← x)
+
+  pub decide-due : {a : Response} (r : Answer) → q ≡ ListDue a → answerOf r ≡ byList caller appid major minor body table (listDue (responseOf a)) → answerOf r ≡ decide caller appid major minor items lent body table
+  unfolding decide stageOf
+  decide-due r h g = let x = rw h at e in g ∙ ap (byList caller appid major minor body table) x
+
+-- ---- the fetch location
+
+module _ (appid items lent : Bytes) {q : Target} (T : Targets lent (target items lent) q) where
+  pub target-app : q ≡ NoRedirect → Locates appid lent (fetchFrom appid items lent) AppId
+  target-app h = record { is = go (target-none T h); inside = app-place }
+    where
+      go : target items lent ≡ none → locationOf appid lent AppId ≡ fetchFrom appid items lent
+      go e = unfold locationOf fetchFrom target in (rw e)
+
+  pub target-text : {a b : ℕ} → q ≡ Part a b → Locates appid lent (fetchFrom appid items lent) (Text a b)
+  target-text {a} {b} h = record { is = go (target-some T h); inside = text-place (target-start T h) (target-end T h) }
+    where
+      go : target items lent ≡ some (take (b - a) (drop a lent)) → locationOf appid lent (Text a b) ≡ fetchFrom appid items lent
+      go e = unfold locationOf fetchFrom target part in (rw e)
+
+module _ (caller appid items lent : Bytes) (q : Stage) (e : stageOf q ≡ beforeList caller appid items lent) where
+  nothing-at : ifFetch (beforeList caller appid items lent) (fetchFrom appid items lent) ≡ [] → Locates appid lent (fetchLocation caller appid items lent) Nothing
+  nothing-at h = record { is = go h; inside = no-place }
+    where
+      go : ifFetch (beforeList caller appid items lent) (fetchFrom appid items lent) ≡ [] → locationOf appid lent Nothing ≡ fetchLocation caller appid items lent
+      go h = unfold locationOf fetchLocation in (sym h)
+
+  pub locate-due : {a : Response} → q ≡ ListDue a → Locates appid lent (fetchLocation caller appid items lent) Nothing
+  locate-due {a} h = nothing-at (go a (rw h at e))
+    where
+      go : (a : Response) → stageOf (ListDue a) ≡ beforeList caller appid items lent → ifFetch (beforeList caller appid items lent) (fetchFrom appid items lent) ≡ []
+      go a x = unfold stageOf ifFetch in (rw (← x))
+
+  module _ {a : Answer} (h : q ≡ Settled a) where
+    pub locate-fetch : {r : Location} → a ≡ Fetch → Locates appid lent (fetchFrom appid items lent) r → Locates appid lent (fetchLocation caller appid items lent) r
+    locate-fetch f L = record { is = L .is ∙ go (rw (h, f) at e); inside = L .inside }
+      where
+        go : stageOf (Settled Fetch) ≡ beforeList caller appid items lent → fetchFrom appid items lent ≡ fetchLocation caller appid items lent
+        go x = unfold fetchLocation stageOf answerOf ifFetch in (rw (← x))
+
+    other : (b : Answer) → a ≡ b → ifFetch (stageOf (Settled b)) (fetchFrom appid items lent) ≡ [] → Locates appid lent (fetchLocation caller appid items lent) Nothing
+    other b f z = let x : stageOf (Settled b) ≡ beforeList caller appid items lent = rw (h, f) at e in nothing-at (rw (← x) z)
+
+    pub locate-rule1 : a ≡ Rule1 → Locates appid lent (fetchLocation caller appid items lent) Nothing
+    locate-rule1 f = other Rule1 f (unfold stageOf answerOf ifFetch in refl)
+
+    pub locate-rule2 : a ≡ Rule2 → Locates appid lent (fetchLocation caller appid items lent) Nothing
+    locate-rule2 f = other Rule2 f (unfold stageOf answerOf ifFetch in refl)
+
+    pub locate-rule3 : a ≡ Rule3 → Locates appid lent (fetchLocation caller appid items lent) Nothing
+    locate-rule3 f = other Rule3 f (unfold stageOf answerOf ifFetch in refl)
+
+    pub locate-rule4 : {n : ℕ} → a ≡ Rule4 n → Locates appid lent (fetchLocation caller appid items lent) Nothing
+    locate-rule4 {n} f = other (Rule4 n) f (unfold stageOf answerOf ifFetch in refl)
+
+    pub locate-refused : {x : Refusal} → a ≡ Refused x → Locates appid lent (fetchLocation caller appid items lent) Nothing
+    locate-refused {x} f = other (Refused x) f (unfold stageOf answerOf ifFetch in refl)
+
+-- the part itself
+in-text : {lent : Bytes} {a b : ℕ} {r : Location} → Inside lent r → r ≡ Text a b → (a ≤ b) × (b ≤ length lent)
+in-text no-place h = let z : _≡_ {A = ℕ} 0 1 = cc in absurd (omega arith)
+in-text app-place h = let z : _≡_ {A = ℕ} 0 1 = cc in absurd (omega arith)
+in-text {a} {b} (text-place {a = i} {b = j} l k) h =
+    let x : i ≡ a = cc in
+    let y : j ≡ b = cc in
+    (omega arith, omega arith)
+
+module _ {appid lent s : Bytes} {r : Location} (L : Locates appid lent s r) where
+  pub part-none : r ≡ Nothing → take 0 (drop 0 appid) ≡ s
+  unfolding locationOf
+  part-none h = (rw h at (L .is))
+
+  pub part-app : r ≡ AppId → appid ≡ s
+  unfolding locationOf
+  part-app h = (rw h at (L .is))
+
+  module _ {a b : ℕ} (h : r ≡ Text a b) where
+    pub part-text : take (b - a) (drop a lent) ≡ s
+    unfolding locationOf part
+    part-text = (rw h at (L .is))
+
+    pub part-start : a ≤ b
+    part-start = in-text (L .inside) h .0
+
+    pub part-end : b ≤ length lent
+    part-end = in-text (L .inside) h .1

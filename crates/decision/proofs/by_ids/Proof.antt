@@ -1,0 +1,23 @@
+-- `decision::by_ids` meets its contract.
+use Rattle.decision.proofs.Laws.{laws}
+use Rattle.decision.proofs.by_ids.Statement.{statement}
+use Rattle.decision.proofs.by_ids.Tie as tie
+
+pub by-ids-spec : {M : Type 1} → statement M
+by-ids-spec =
+    tie.close
+    (tie.spec
+    {- find-owner-requires -}
+    (λ c κs. search laws)
+    {- enum-told -}
+    (λ c. search laws)
+    {- enum-known-start -}
+    (λ c. search laws)
+    {- first-match-requires -}
+    (λ c κs. search laws)
+    {- by-match-requires -}
+    (λ c κs. search laws)
+    {- returns -}
+    (λ c. search laws)
+    {- returns-2 -}
+    (λ c. search laws))

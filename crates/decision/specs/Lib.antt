@@ -1,0 +1,5 @@
+pub mod Answer
+pub mod Decide
+pub mod Location
+pub mod Meaning
+pub mod SameKept
