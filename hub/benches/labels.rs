@@ -1,21 +1,14 @@
 //! Nanoseconds for one private label on the published table: the proved library, which reads the table on
 //! every call and keeps nothing, beside the crate `publicsuffix` and libpsl, which read it once before.
-//!
-//! Every number is the median of `ROUNDS` rounds of about `ROUND` each.
 
 #[path = "../tests/hub/published.rs"]
 mod published;
+mod timing;
 
 use facets_hub::private_label;
 use publicsuffix::{List, Psl};
-use std::{
-    ffi::CString,
-    hint::black_box,
-    time::{Duration, Instant},
-};
-
-const ROUNDS: usize = 11;
-const ROUND: Duration = Duration::from_millis(5);
+use std::{ffi::CString, hint::black_box};
+use timing::{nanoseconds, ROUNDS};
 
 /// libpsl by its C calls; needs Debian's package libpsl-dev.
 mod libpsl {
@@ -62,24 +55,6 @@ mod libpsl {
             unsafe { psl_free(self.0) }
         }
     }
-}
-
-/// The median nanoseconds of one call.
-fn nanoseconds<T>(mut call: impl FnMut() -> T) -> f64 {
-    let start = Instant::now();
-    black_box(call());
-    let calls = (ROUND.as_nanos() / start.elapsed().as_nanos().max(20)).max(1);
-    let mut rounds: Vec<f64> = (0..ROUNDS)
-        .map(|_| {
-            let start = Instant::now();
-            for _ in 0..calls {
-                black_box(call());
-            }
-            start.elapsed().as_nanos() as f64 / calls as f64
-        })
-        .collect();
-    rounds.sort_by(f64::total_cmp);
-    rounds[ROUNDS / 2]
 }
 
 fn main() {

@@ -3,7 +3,41 @@
 //! A byte slice lent to the library passes as its pointer, then its length. The library reads it for the
 //! time of the call only and keeps no pointer. An empty slice's pointer is non-null and never read.
 
+use crate::Inputs;
+
+/// A part of the AppID or of the text: `source` is 0 for no part, 1 for the AppID, 2 for the text.
+#[repr(C)]
+pub struct Location {
+    pub source: u8,
+    pub start: u32,
+    pub len: u32,
+}
+
+#[cfg(feature = "cleaning")]
+/// What cleaning reports: `refusal` is 0 where it wrote a list of `len` bytes.
+#[repr(C)]
+pub struct Cleaned {
+    pub refusal: u16,
+    pub len: u32,
+}
+
+#[cfg(feature = "cleaning")]
+/// What the tally reports: `refusal` is 0 where it counted.
+#[repr(C)]
+pub struct Tally {
+    pub refusal: u16,
+    pub kept: u32,
+    pub too_long: u32,
+    pub other_scheme: u32,
+    pub not_facet: u32,
+    pub other_label: u32,
+}
+
 mod c {
+    use super::Location;
+    #[cfg(feature = "cleaning")]
+    use super::{Cleaned, Tally};
+
     extern "C" {
         pub fn facets_private_label(
             host: *const u8,
@@ -11,6 +45,78 @@ mod c {
             table: *const u8,
             table_len: usize,
         ) -> u32;
+
+        pub fn facets_decide(
+            caller: *const u8,
+            caller_len: usize,
+            appid: *const u8,
+            appid_len: usize,
+            major: u16,
+            minor: u16,
+            record: *const u8,
+            record_len: usize,
+            text: *const u8,
+            text_len: usize,
+            body: *const u8,
+            body_len: usize,
+            table: *const u8,
+            table_len: usize,
+        ) -> u16;
+
+        pub fn facets_decide_place(
+            caller: *const u8,
+            caller_len: usize,
+            appid: *const u8,
+            appid_len: usize,
+            major: u16,
+            minor: u16,
+            record: *const u8,
+            record_len: usize,
+            text: *const u8,
+            text_len: usize,
+            body: *const u8,
+            body_len: usize,
+            table: *const u8,
+            table_len: usize,
+            place: *mut u32,
+        ) -> u16;
+
+        pub fn facets_fetch_location(
+            caller: *const u8,
+            caller_len: usize,
+            appid: *const u8,
+            appid_len: usize,
+            record: *const u8,
+            record_len: usize,
+            text: *const u8,
+            text_len: usize,
+        ) -> Location;
+
+        #[cfg(feature = "cleaning")]
+        pub fn facets_clean(
+            appid: *const u8,
+            appid_len: usize,
+            major: u16,
+            minor: u16,
+            body: *const u8,
+            body_len: usize,
+            table: *const u8,
+            table_len: usize,
+            out: *mut u8,
+            out_len: usize,
+        ) -> Cleaned;
+
+        #[cfg(feature = "cleaning")]
+        pub fn facets_tally(
+            appid: *const u8,
+            appid_len: usize,
+            major: u16,
+            minor: u16,
+            body: *const u8,
+            body_len: usize,
+            table: *const u8,
+            table_len: usize,
+        ) -> Tally;
     }
 }
 
@@ -18,4 +124,110 @@ mod c {
 pub fn private_label(host: &[u8], table: &[u8]) -> u32 {
     // SAFETY: both pointers are valid for reads of the lengths beside them during the call.
     unsafe { c::facets_private_label(host.as_ptr(), host.len(), table.as_ptr(), table.len()) }
+}
+
+/// The decision's code.
+pub fn decide(inputs: &Inputs) -> u16 {
+    let Inputs { caller, appid, major, minor, record, text, body, table } = *inputs;
+    // SAFETY: every pointer is valid for reads of the length beside it during the call.
+    unsafe {
+        c::facets_decide(
+            caller.as_ptr(),
+            caller.len(),
+            appid.as_ptr(),
+            appid.len(),
+            major,
+            minor,
+            record.as_ptr(),
+            record.len(),
+            text.as_ptr(),
+            text.len(),
+            body.as_ptr(),
+            body.len(),
+            table.as_ptr(),
+            table.len(),
+        )
+    }
+}
+
+/// The decision's code; where it is 4, `place` becomes the place, and otherwise it stays.
+pub fn decide_place(inputs: &Inputs, place: &mut u32) -> u16 {
+    let Inputs { caller, appid, major, minor, record, text, body, table } = *inputs;
+    // SAFETY: every pointer is valid for reads of the length beside it during the call, and `place` for a
+    // read and a write.
+    unsafe {
+        c::facets_decide_place(
+            caller.as_ptr(),
+            caller.len(),
+            appid.as_ptr(),
+            appid.len(),
+            major,
+            minor,
+            record.as_ptr(),
+            record.len(),
+            text.as_ptr(),
+            text.len(),
+            body.as_ptr(),
+            body.len(),
+            table.as_ptr(),
+            table.len(),
+            place,
+        )
+    }
+}
+
+/// The part to fetch.
+pub fn fetch_location(caller: &[u8], appid: &[u8], record: &[u8], text: &[u8]) -> Location {
+    // SAFETY: every pointer is valid for reads of the length beside it during the call.
+    unsafe {
+        c::facets_fetch_location(
+            caller.as_ptr(),
+            caller.len(),
+            appid.as_ptr(),
+            appid.len(),
+            record.as_ptr(),
+            record.len(),
+            text.as_ptr(),
+            text.len(),
+        )
+    }
+}
+
+#[cfg(feature = "cleaning")]
+/// Writes the cleaned list to the beginning of `out`; a refusal changes no byte of it.
+pub fn clean(appid: &[u8], major: u16, minor: u16, body: &[u8], table: &[u8], out: &mut [u8]) -> Cleaned {
+    // SAFETY: every pointer is valid for reads of the length beside it during the call, and that of `out`
+    // for writes too; `out` overlaps no other slice.
+    unsafe {
+        c::facets_clean(
+            appid.as_ptr(),
+            appid.len(),
+            major,
+            minor,
+            body.as_ptr(),
+            body.len(),
+            table.as_ptr(),
+            table.len(),
+            out.as_mut_ptr(),
+            out.len(),
+        )
+    }
+}
+
+#[cfg(feature = "cleaning")]
+/// Counts the selected entries.
+pub fn tally(appid: &[u8], major: u16, minor: u16, body: &[u8], table: &[u8]) -> Tally {
+    // SAFETY: every pointer is valid for reads of the length beside it during the call.
+    unsafe {
+        c::facets_tally(
+            appid.as_ptr(),
+            appid.len(),
+            major,
+            minor,
+            body.as_ptr(),
+            body.len(),
+            table.as_ptr(),
+            table.len(),
+        )
+    }
 }

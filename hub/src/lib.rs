@@ -2,11 +2,26 @@
 //!
 //! Every call here is safe: it takes byte slices and numbers and hands them to one exported call of the
 //! library, whose result and effects are proved equal to the definitions of document 01. `ffi` is the only
-//! module with unsafe code; each further module holds the calls of one subject.
+//! module with unsafe code; each further module holds the calls of one subject. A number that document 01
+//! does not have, come from the library, is a panic.
 #![deny(unsafe_code, unsafe_op_in_unsafe_fn, missing_docs)]
 
+#[cfg(feature = "cleaning")]
+mod cleaning;
+mod decision;
+mod fetch;
 #[allow(unsafe_code)]
 mod ffi;
 mod label;
+mod refusal;
+#[cfg(feature = "cleaning")]
+mod tally;
 
+#[cfg(feature = "cleaning")]
+pub use cleaning::clean;
+pub use decision::{decide, decision_code, decision_code_with_place, Answer, Inputs};
+pub use fetch::fetch_location;
 pub use label::private_label;
+pub use refusal::Refusal;
+#[cfg(feature = "cleaning")]
+pub use tally::{tally, Counts};

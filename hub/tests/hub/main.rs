@@ -1,7 +1,18 @@
 //! Tests of the hub's calls into the proved library: against document 01 by hand, against a model of it,
 //! and against other people's programs and published tests.
 
+mod case;
+mod check;
+#[cfg(feature = "cleaning")]
+mod cleaning;
+mod decision;
+mod hand;
 mod label;
+mod list;
+mod make;
 mod model;
 mod published;
 mod random;
+mod stack;
+#[cfg(feature = "cleaning")]
+mod whole;

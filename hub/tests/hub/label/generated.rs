@@ -4,69 +4,13 @@ use super::{
     check,
     model::{self, Answer},
 };
-use crate::random::Random;
+use crate::{
+    make::table::{damage, join, labels, line, BAD_LINES},
+    random::Random,
+};
 use std::collections::BTreeMap;
 
 const ROUNDS: usize = 200_000;
-
-/// Few labels, so that hosts meet rules often.
-const LABELS: [&str; 9] = ["a", "b", "c", "ck", "a", "b", "c", "a-1", "10"];
-
-/// Lines that make a table bad.
-const BAD_LINES: [&[u8]; 20] = [
-    b"*a", b"a.*", b"a.*.b", b"*.", b"*.*", b"**", b"!a", b"!", b"!*.ck", b"!!a.b", b".a", b"a.", b"a..b",
-    b"-a", b"a-.b", b"a\0", b"\xef\xbb\xbfa", b"\xc3\xbc.c", b"a//", b"/",
-];
-
-/// Bytes that damage a host or a table, or change its meaning.
-const DAMAGE: &[u8] = b"..-*!/ \t\r\n\0_:aAzZ@[`{09\x7f\x80\xc3\xff\x0b\x0c";
-
-fn labels(random: &mut Random, least: usize, most: usize) -> Vec<u8> {
-    let count = least + random.below(most - least + 1);
-    let mut labels: Vec<Vec<u8>> = (0..count).map(|_| random.pick(&LABELS).into()).collect();
-    if random.chance(4) {
-        // Labels around the bound of 63; four of them are around the bound of 253.
-        let some = random.below(labels.len() + 1);
-        for label in &mut labels[some..] {
-            *label = vec![b'a' + (label[0] & 1); 61 + random.below(4)];
-        }
-    }
-    let mut name = labels.join(&b'.');
-    if random.chance(20) {
-        random.mix_case(&mut name);
-    }
-    name
-}
-
-fn rule(random: &mut Random) -> Vec<u8> {
-    match random.below(10) {
-        0..=3 => labels(random, 1, 3),
-        4..=5 => [b"*.".to_vec(), labels(random, 1, 4)].concat(),
-        6..=8 => [b"!".to_vec(), labels(random, 2, 4)].concat(),
-        _ => b"*".to_vec(),
-    }
-}
-
-fn line(random: &mut Random) -> Vec<u8> {
-    let rule = rule(random);
-    match random.below(12) {
-        0 => [random.pick(&[&b"// "[..], b"//", b"//\xc3\xbc\0"]), &rule].concat(),
-        1 => [random.pick(&[&b" "[..], b"\t", b"\r"]), &rule].concat(),
-        2 => [&rule[..], random.pick(&[&b" x"[..], b"\t!", b"\r", b"  ", b" //", b"\t\xff"])].concat(),
-        3 => Vec::new(),
-        _ => rule,
-    }
-}
-
-fn damage(random: &mut Random, bytes: &mut Vec<u8>) {
-    let at = random.below(bytes.len() + 1);
-    let byte = DAMAGE[random.below(DAMAGE.len())];
-    match random.below(3) {
-        0 => bytes.insert(at, byte),
-        1 if at < bytes.len() => bytes[at] = byte,
-        _ => bytes.truncate(at),
-    }
-}
 
 /// A host, every other time one that ends in the name of one of the lines.
 fn host(random: &mut Random, lines: &[Vec<u8>]) -> Vec<u8> {
@@ -81,19 +25,6 @@ fn host(random: &mut Random, lines: &[Vec<u8>]) -> Vec<u8> {
         damage(random, &mut host);
     }
     host
-}
-
-/// A table of these lines.
-fn table(random: &mut Random, lines: &[Vec<u8>]) -> Vec<u8> {
-    let end: &[u8] = random.pick(&[&b"\n"[..], b"\n", b"\r\n"]);
-    let mut table = lines.join(end);
-    if random.chance(50) {
-        table.extend(end);
-    }
-    if random.chance(10) {
-        damage(random, &mut table);
-    }
-    table
 }
 
 /// The class an answer is counted under.
@@ -117,7 +48,7 @@ fn generated_hosts_and_tables_beside_the_model() {
         if let Some(bad) = bad_line {
             lines.insert(random.below(lines.len() + 1), bad.to_vec());
         }
-        let table = table(&mut random, &lines);
+        let table = join(&mut random, &lines);
         let answer = model::private_label(&host, &table);
         check(&host, &table, answer.part());
         *classes.entry(class(&answer, bad_line)).or_default() += 1;

@@ -1,5 +1,15 @@
 //! A model of document 01, written sentence by sentence from its text and from nothing else.
 //!
-//! It is naive on purpose: it splits, copies and sorts where the library walks the bytes in place.
+//! It is naive on purpose: it splits, copies and sorts where the library walks the bytes in place, and reads
+//! JSON with serde_json. A refusal is its number.
 
+pub mod cleaning;
+pub mod decision;
+pub mod identifier;
+pub mod json;
+pub mod list;
+pub mod record;
 pub mod suffix;
+
+/// A refusal's number.
+pub type Refused = u16;

@@ -31,13 +31,13 @@ pub enum Kind {
     Default,
 }
 
-struct Rule {
+pub struct Rule {
     kind: Kind,
     labels: Vec<Label>,
 }
 
 /// The rules of a table; nothing where it is bad or too long.
-fn table(bytes: &[u8]) -> Option<Vec<Rule>> {
+pub fn table(bytes: &[u8]) -> Option<Vec<Rule>> {
     // The table is at most 1,048,576 bytes.
     if bytes.len() > 1_048_576 {
         return None;

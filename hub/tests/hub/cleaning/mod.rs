@@ -1,0 +1,4 @@
+//! Tests of cleaning and tally.
+
+mod cases;
+mod generated;

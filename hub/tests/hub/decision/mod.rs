@@ -1,0 +1,6 @@
+//! Tests of the decision and of the fetch location.
+
+mod bounds;
+mod cases;
+mod fetched;
+mod generated;

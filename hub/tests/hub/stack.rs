@@ -1,0 +1,174 @@
+//! How much stack the library's calls take: each runs on a stack filled with a pattern before, and the
+//! deepest byte that no longer holds it shows how far the call went.
+
+use crate::{
+    case::Case,
+    hand::{body, body_of, case, APP},
+    make::record::{answer, redirect},
+};
+use std::{
+    ffi::{c_int, c_ulong, c_void},
+    hint::black_box,
+    ptr::null_mut,
+};
+
+/// The most that a call may take.
+const MOST: usize = 64 * 1024;
+
+const STACK: usize = 1024 * 1024;
+const PATTERN: u128 = 0xA55A_C33C_9669_F00F_1EE1_D22D_B44B_8778;
+
+/// Threads with a stack of the caller's own, which std does not offer. `Attributes` is larger than any
+/// platform's `pthread_attr_t`.
+type Attributes = [u128; 16];
+
+extern "C" {
+    fn pthread_attr_init(attributes: *mut Attributes) -> c_int;
+    fn pthread_attr_setstack(attributes: *mut Attributes, stack: *mut c_void, size: usize) -> c_int;
+    fn pthread_attr_destroy(attributes: *mut Attributes) -> c_int;
+    fn pthread_create(
+        thread: *mut c_ulong,
+        attributes: *const Attributes,
+        start: extern "C" fn(*mut c_void) -> *mut c_void,
+        argument: *mut c_void,
+    ) -> c_int;
+    fn pthread_join(thread: c_ulong, result: *mut *mut c_void) -> c_int;
+}
+
+/// A call to run, and where on the stack it began.
+struct Run<'a> {
+    call: &'a mut dyn FnMut(),
+    top: usize,
+}
+
+extern "C" fn start(run: *mut c_void) -> *mut c_void {
+    // SAFETY: `used` hands over its `Run` and does not touch it before the thread has ended.
+    let run = unsafe { &mut *run.cast::<Run>() };
+    let here = 0u8;
+    run.top = black_box(&raw const here) as usize;
+    (run.call)();
+    null_mut()
+}
+
+/// The bytes of stack that a call takes.
+fn used<T>(mut call: impl FnMut() -> T) -> usize {
+    let mut stack = vec![PATTERN; STACK / size_of::<u128>()];
+    let call = &mut || drop(black_box(call()));
+    let mut run = Run { call, top: 0 };
+    let (mut attributes, mut thread): (Attributes, c_ulong) = ([0; 16], 0);
+    // SAFETY: the stack outlives the thread, which is joined here, and nothing else touches it meanwhile; so
+    // does `run`.
+    unsafe {
+        assert_eq!(pthread_attr_init(&mut attributes), 0);
+        assert_eq!(pthread_attr_setstack(&mut attributes, stack.as_mut_ptr().cast(), STACK), 0);
+        assert_eq!(pthread_create(&mut thread, &attributes, start, (&raw mut run).cast()), 0);
+        assert_eq!(pthread_join(thread, null_mut()), 0);
+        assert_eq!(pthread_attr_destroy(&mut attributes), 0);
+    }
+    let lowest = black_box(&stack).iter().position(|&word| word != PATTERN).expect("the stack was used");
+    assert!(lowest > 0, "the stack is large enough");
+    run.top.saturating_sub(stack.as_ptr() as usize + lowest * size_of::<u128>())
+}
+
+/// Inputs that go deepest or are longest, each in another way.
+fn worst() -> Vec<(&'static str, Case)> {
+    let base = || {
+        // A host of 253 bytes, an AppID of 2,048, and the same as the Location of 8 redirects.
+        let mut appid = format!("https://{}example.com/", "l.".repeat(121)).into_bytes();
+        appid.resize(2048, b't');
+        let record = [redirect(302, 1, 0, 2048).repeat(8), answer(200, 1)].concat();
+        Case { text: appid.clone(), appid, record, ..case(&[APP]) }
+    };
+    let arrays = |depth: usize| "[".repeat(depth) + &"]".repeat(depth);
+    let objects = |depth: usize| "{\"\":".repeat(depth) + "\"\\uD83D\\uDD11\"" + &"}".repeat(depth);
+    let member = |value: &str| {
+        let list = String::from_utf8(body(&[APP])).expect("UTF-8");
+        format!("{{\"x\":{value},{}", &list[1..]).into_bytes()
+    };
+    let in_version = |value: &str| {
+        format!(
+            r#"{{"trustedFacets":[{{"version":{{"major":1,"minor":0,"x":{value}}},"ids":["{APP}","https://a.example.com"]}}]}}"#
+        )
+        .into_bytes()
+    };
+    let entry = format!("ios:bundle-id:{}", "n".repeat(255));
+    let long = "https://a.example.com/".to_owned() + &"\\u0061".repeat(490);
+    let longest = "\\uD83D\\uDD11".repeat(5400);
+    let mut table = b"example.com\n".repeat(1_048_576 / 12);
+    table.resize(1_048_576, b'\n');
+    let host = format!("https://{}example.com", "l.".repeat(120));
+    vec![
+        ("arrays 16 deep", Case { body: member(&arrays(15)), ..base() }),
+        ("arrays 17 deep", Case { body: member(&arrays(16)), ..base() }),
+        ("arrays 30,000 deep", Case { body: arrays(30_000).into(), ..base() }),
+        ("objects 16 deep", Case { body: in_version(&objects(12)), ..base() }),
+        ("objects 17 deep", Case { body: in_version(&objects(13)), ..base() }),
+        ("longest native entry", Case { caller: entry.clone().into(), body: body(&[&entry]), ..base() }),
+        ("an entry of 512 bytes", Case { body: body_of(&format!("[\"{long}\"]")), ..base() }),
+        ("longest string", Case { body: body_of(&format!("[\"{longest}\"]")), ..base() }),
+        ("longest skipped string", Case { body: member(&format!("\"{longest}\"")), ..base() }),
+        ("largest table", Case { caller: host.clone().into(), body: body(&[&host, APP]), table, ..base() }),
+    ]
+}
+
+#[test]
+fn every_call_takes_at_most_64_kib_of_stack() {
+    #[cfg(feature = "cleaning")]
+    use facets_hub::{clean, tally};
+    use facets_hub::{decision_code, decision_code_with_place, fetch_location, private_label};
+    let mut most = [
+        ("private_label", 0),
+        ("decide", 0),
+        ("decide_place", 0),
+        ("fetch_location", 0),
+        #[cfg(feature = "cleaning")]
+        ("clean", 0),
+        #[cfg(feature = "cleaning")]
+        ("tally", 0),
+    ];
+    let nothing = used(|| ());
+    for (name, case) in worst() {
+        let Case { caller, appid, record, text, table, .. } = &case;
+        #[cfg(feature = "cleaning")]
+        let Case { major, minor, body, .. } = &case;
+        let (inputs, mut place) = (case.decision(), 0);
+        #[cfg(feature = "cleaning")]
+        let mut out = vec![0; 65_536];
+        let unanswered = &record[..64];
+        let host = &appid[8..253 + 8];
+        let taken = [
+            used(|| private_label(host, table).len()),
+            used(|| decision_code(&inputs)),
+            used(|| decision_code_with_place(&inputs, &mut place)),
+            used(|| fetch_location(caller, appid, unanswered, text).len()),
+            #[cfg(feature = "cleaning")]
+            used(|| clean(appid, *major, *minor, body, table, &mut out)),
+            #[cfg(feature = "cleaning")]
+            used(|| tally(appid, *major, *minor, body, table)),
+        ];
+        println!("stack, {name}: {taken:?} bytes");
+        for (most, taken) in most.iter_mut().zip(taken) {
+            most.1 = most.1.max(taken);
+        }
+    }
+    println!("deepest use of the stack in bytes: {most:?}; no call: {nothing}");
+    for (call, taken) in most {
+        assert!(taken > 0 && taken <= MOST, "{call} takes {taken} bytes of stack");
+    }
+}
+
+#[test]
+fn the_measure_sees_what_a_call_takes() {
+    fn take<const BYTES: usize>() -> usize {
+        used(|| {
+            let mut bytes = [0u8; BYTES];
+            black_box(&mut bytes).fill(1);
+            black_box(&bytes);
+        })
+    }
+    for (taken, bytes) in
+        [(take::<10_000>(), 10_000), (take::<70_000>(), 70_000), (take::<500_000>(), 500_000)]
+    {
+        assert!((bytes..bytes + 4096).contains(&taken), "{taken} of {bytes}");
+    }
+}
