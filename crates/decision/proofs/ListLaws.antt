@@ -17,8 +17,8 @@ use Rattle.trusted_list.specs.TrustedList.{listRefusal, entries}
 use Rattle.trusted_list.specs.Slots.{idsAt, Answers, is-refused, is-selected}
 use Rattle.trusted_list.specs.declared.Selection.{Selection}
 use Rattle.trusted_list.specs.declared.Selection.the-variants.{Refused as ListRefused, Ids}
-use Rattle.fetch_record.specs.Record.{readRecord, lastLocation}
-use Rattle.fetch_record.specs.Meaning.{answerOf as responseOf, target, partIn, TargetPlaced, Targets}
+use Rattle.fetch_record.specs.Record.{Redirect, readRecord, lastLocation}
+use Rattle.fetch_record.specs.Meaning.{answerOf as responseOf, target, lastHop, partIn, TargetPlaced, TargetOf, of-none, of-hop, Targets}
 use Rattle.fetch_record.specs.declared.item.Answer.{Answer as Response}
 use Rattle.fetch_record.specs.declared.Target.{Target}
 use Rattle.fetch_record.specs.declared.Target.the-variants.{NoRedirect, Part}
@@ -29,8 +29,8 @@ use Rattle.causes.specs.declared.AppOwner.{AppOwner}
 use Rattle.causes.specs.declared.AppOwner.the-variants.{BadTable as NoTable, Label}
 use Rattle.decision.specs.Answer.{refused}
 use Rattle.decision.specs.Decide.{settled, listDue, beforeList, firstMatch, lateRefusal, byPlace, unless, byList, decide}
-use Rattle.decision.specs.Location.{fetchFrom, ifFetch, fetchLocation}
-use Rattle.decision.specs.Meaning.{answerOf, stageOf, Owned, IdsThere, entriesAt, matchOf, byEntries, locationOf, Inside, no-place, app-place, text-place, Locates}
+use Rattle.decision.specs.Location.{fetchFrom, ifFetch, fetchLocation, Source, nowhere, theAppId, redirect, sourceFrom, sourceIfFetch, fetchSource}
+use Rattle.decision.specs.Meaning.{answerOf, stageOf, Owned, IdsThere, entriesAt, matchOf, byEntries, locationOf, Inside, no-place, app-place, text-place, Stands, at-nowhere, at-app, at-hop, Locates}
 use Rattle.decision.specs.declared.Answer.{Answer}
 use Rattle.decision.specs.declared.Answer.the-variants.{Rule1, Rule2, Rule3, Rule4, Fetch, Refused}
 use Rattle.decision.specs.declared.Stage.{Stage}
@@ -154,56 +154,73 @@ module _ (caller appid : Bytes) (major minor : ℕ) (items lent body table : Byt
 
 -- ---- the fetch location
 
-module _ (appid items lent : Bytes) {q : Target} (T : Targets lent (target items lent) q) where
-  pub target-app : q ≡ NoRedirect → Locates appid lent (fetchFrom appid items lent) AppId
-  target-app h = record { is = go (target-none T h); inside = app-place }
+module _ (appid items lent : Bytes) {q : Target} (T : Targets lent (target items lent) (lastHop items lent) q) where
+  app-stands : {l : Option Redirect} → TargetOf l NoRedirect → Stands (sourceFrom l) AppId
+  unfolding sourceFrom
+  app-stands of-none = at-app
+
+  text-stands : {l : Option Redirect} {a b : ℕ} → TargetOf l (Part a b) → Stands (sourceFrom l) (Text a b)
+  unfolding sourceFrom
+  text-stands (of-hop e f s t) = at-hop e f s t
+
+  pub target-app : q ≡ NoRedirect → Locates appid lent (fetchFrom appid items lent) (sourceFrom (lastHop items lent)) AppId
+  target-app h = record { is = go (target-none T h); inside = app-place; stands = app-stands (rw h at (T .hop)) }
     where
       go : target items lent ≡ none → locationOf appid lent AppId ≡ fetchFrom appid items lent
       go e = unfold locationOf fetchFrom target in (rw e)
 
-  pub target-text : {a b : ℕ} → q ≡ Part a b → Locates appid lent (fetchFrom appid items lent) (Text a b)
-  target-text {a} {b} h = record { is = go (target-some T h); inside = text-place (target-start T h) (target-end T h) }
+  pub target-text : {a b : ℕ} → q ≡ Part a b → Locates appid lent (fetchFrom appid items lent) (sourceFrom (lastHop items lent)) (Text a b)
+  target-text {a} {b} h = record { is = go (target-some T h); inside = text-place (target-start T h) (target-end T h); stands = text-stands (rw h at (T .hop)) }
     where
       go : target items lent ≡ some (take (b - a) (drop a lent)) → locationOf appid lent (Text a b) ≡ fetchFrom appid items lent
       go e = unfold locationOf fetchFrom target part in (rw e)
 
 module _ (caller appid items lent : Bytes) (q : Stage) (e : stageOf q ≡ beforeList caller appid items lent) where
-  nothing-at : ifFetch (beforeList caller appid items lent) (fetchFrom appid items lent) ≡ [] → Locates appid lent (fetchLocation caller appid items lent) Nothing
-  nothing-at h = record { is = go h; inside = no-place }
+  nothing-at : ifFetch (beforeList caller appid items lent) (fetchFrom appid items lent) ≡ [] → sourceIfFetch (beforeList caller appid items lent) (sourceFrom (lastHop items lent)) ≡ nowhere → Locates appid lent (fetchLocation caller appid items lent) (fetchSource caller appid items lent) Nothing
+  nothing-at h n = record { is = go h; inside = no-place; stands = stand n }
     where
+      stand : sourceIfFetch (beforeList caller appid items lent) (sourceFrom (lastHop items lent)) ≡ nowhere → Stands (fetchSource caller appid items lent) Nothing
+      stand n = unfold fetchSource in (rw n at-nowhere)
+
       go : ifFetch (beforeList caller appid items lent) (fetchFrom appid items lent) ≡ [] → locationOf appid lent Nothing ≡ fetchLocation caller appid items lent
       go h = unfold locationOf fetchLocation in (sym h)
 
-  pub locate-due : {a : Response} → q ≡ ListDue a → Locates appid lent (fetchLocation caller appid items lent) Nothing
-  locate-due {a} h = nothing-at (go a (rw h at e))
+  pub locate-due : {a : Response} → q ≡ ListDue a → Locates appid lent (fetchLocation caller appid items lent) (fetchSource caller appid items lent) Nothing
+  locate-due {a} h = nothing-at (go a (rw h at e)) (from a (rw h at e))
     where
+      from : (a : Response) → stageOf (ListDue a) ≡ beforeList caller appid items lent → sourceIfFetch (beforeList caller appid items lent) (sourceFrom (lastHop items lent)) ≡ nowhere
+      from a x = unfold stageOf sourceIfFetch in (rw (← x))
+
       go : (a : Response) → stageOf (ListDue a) ≡ beforeList caller appid items lent → ifFetch (beforeList caller appid items lent) (fetchFrom appid items lent) ≡ []
       go a x = unfold stageOf ifFetch in (rw (← x))
 
   module _ {a : Answer} (h : q ≡ Settled a) where
-    pub locate-fetch : {r : Location} → a ≡ Fetch → Locates appid lent (fetchFrom appid items lent) r → Locates appid lent (fetchLocation caller appid items lent) r
-    locate-fetch f L = record { is = L .is ∙ go (rw (h, f) at e); inside = L .inside }
+    pub locate-fetch : {r : Location} → a ≡ Fetch → Locates appid lent (fetchFrom appid items lent) (sourceFrom (lastHop items lent)) r → Locates appid lent (fetchLocation caller appid items lent) (fetchSource caller appid items lent) r
+    locate-fetch f L = record { is = L .is ∙ go (rw (h, f) at e); inside = L .inside; stands = rw (← from (rw (h, f) at e)) (L .stands) }
       where
+        from : stageOf (Settled Fetch) ≡ beforeList caller appid items lent → sourceFrom (lastHop items lent) ≡ fetchSource caller appid items lent
+        from x = unfold fetchSource stageOf answerOf sourceIfFetch in (rw (← x))
+
         go : stageOf (Settled Fetch) ≡ beforeList caller appid items lent → fetchFrom appid items lent ≡ fetchLocation caller appid items lent
         go x = unfold fetchLocation stageOf answerOf ifFetch in (rw (← x))
 
-    other : (b : Answer) → a ≡ b → ifFetch (stageOf (Settled b)) (fetchFrom appid items lent) ≡ [] → Locates appid lent (fetchLocation caller appid items lent) Nothing
-    other b f z = let x : stageOf (Settled b) ≡ beforeList caller appid items lent = rw (h, f) at e in nothing-at (rw (← x) z)
+    other : (b : Answer) → a ≡ b → ifFetch (stageOf (Settled b)) (fetchFrom appid items lent) ≡ [] → sourceIfFetch (stageOf (Settled b)) (sourceFrom (lastHop items lent)) ≡ nowhere → Locates appid lent (fetchLocation caller appid items lent) (fetchSource caller appid items lent) Nothing
+    other b f z n = let x : stageOf (Settled b) ≡ beforeList caller appid items lent = rw (h, f) at e in nothing-at (rw (← x) z) (rw (← x) n)
 
-    pub locate-rule1 : a ≡ Rule1 → Locates appid lent (fetchLocation caller appid items lent) Nothing
-    locate-rule1 f = other Rule1 f (unfold stageOf answerOf ifFetch in refl)
+    pub locate-rule1 : a ≡ Rule1 → Locates appid lent (fetchLocation caller appid items lent) (fetchSource caller appid items lent) Nothing
+    locate-rule1 f = other Rule1 f (unfold stageOf answerOf ifFetch in refl) (unfold stageOf answerOf sourceIfFetch in refl)
 
-    pub locate-rule2 : a ≡ Rule2 → Locates appid lent (fetchLocation caller appid items lent) Nothing
-    locate-rule2 f = other Rule2 f (unfold stageOf answerOf ifFetch in refl)
+    pub locate-rule2 : a ≡ Rule2 → Locates appid lent (fetchLocation caller appid items lent) (fetchSource caller appid items lent) Nothing
+    locate-rule2 f = other Rule2 f (unfold stageOf answerOf ifFetch in refl) (unfold stageOf answerOf sourceIfFetch in refl)
 
-    pub locate-rule3 : a ≡ Rule3 → Locates appid lent (fetchLocation caller appid items lent) Nothing
-    locate-rule3 f = other Rule3 f (unfold stageOf answerOf ifFetch in refl)
+    pub locate-rule3 : a ≡ Rule3 → Locates appid lent (fetchLocation caller appid items lent) (fetchSource caller appid items lent) Nothing
+    locate-rule3 f = other Rule3 f (unfold stageOf answerOf ifFetch in refl) (unfold stageOf answerOf sourceIfFetch in refl)
 
-    pub locate-rule4 : {n : ℕ} → a ≡ Rule4 n → Locates appid lent (fetchLocation caller appid items lent) Nothing
-    locate-rule4 {n} f = other (Rule4 n) f (unfold stageOf answerOf ifFetch in refl)
+    pub locate-rule4 : {n : ℕ} → a ≡ Rule4 n → Locates appid lent (fetchLocation caller appid items lent) (fetchSource caller appid items lent) Nothing
+    locate-rule4 {n} f = other (Rule4 n) f (unfold stageOf answerOf ifFetch in refl) (unfold stageOf answerOf sourceIfFetch in refl)
 
-    pub locate-refused : {x : Refusal} → a ≡ Refused x → Locates appid lent (fetchLocation caller appid items lent) Nothing
-    locate-refused {x} f = other (Refused x) f (unfold stageOf answerOf ifFetch in refl)
+    pub locate-refused : {x : Refusal} → a ≡ Refused x → Locates appid lent (fetchLocation caller appid items lent) (fetchSource caller appid items lent) Nothing
+    locate-refused {x} f = other (Refused x) f (unfold stageOf answerOf ifFetch in refl) (unfold stageOf answerOf sourceIfFetch in refl)
 
 -- the part itself
 in-text : {lent : Bytes} {a b : ℕ} {r : Location} → Inside lent r → r ≡ Text a b → (a ≤ b) × (b ≤ length lent)
@@ -214,7 +231,7 @@ in-text {a} {b} (text-place {a = i} {b = j} l k) h =
     let y : j ≡ b = cc in
     (omega arith, omega arith)
 
-module _ {appid lent s : Bytes} {r : Location} (L : Locates appid lent s r) where
+module _ {appid lent s : Bytes} {source : Source} {r : Location} (L : Locates appid lent s source r) where
   pub part-none : r ≡ Nothing → take 0 (drop 0 appid) ≡ s
   unfolding locationOf
   part-none h = (rw h at (L .is))

@@ -2,7 +2,8 @@
 use mathlib.Core.List.{List, [], _∷_}
 use mathlib.Core.Option.{Option, none, some, Option·getD}
 use Rattle.ascii.specs.Ascii.{Bytes, _>>=_}
-use Rattle.fetch_record.specs.Record.{lastLocation, readRecord}
+use Rattle.fetch_record.specs.Record.{Redirect, lastLocation, readRecord}
+use Rattle.fetch_record.specs.Meaning.{lastHop}
 use Rattle.decision.specs.Answer.{Answer, rule1, rule2, rule3, rule4, fetch, refused}
 use Rattle.decision.specs.Decide.{Stage, settled, listDue, beforeList}
 
@@ -23,3 +24,28 @@ ifFetch (settled fetch) s = s
 -- caller, AppID, record and text
 unfoldable pub fetchLocation : Bytes → Bytes → Bytes → Bytes → Bytes
 fetchLocation caller appid items lent = ifFetch (beforeList caller appid items lent) (fetchFrom appid items lent)
+
+-- ---- the same by its place
+
+-- no part, the AppID, or the last redirect's part of the text
+pub data Source : Type 0 where
+  nowhere : Source
+  theAppId : Source
+  redirect : Redirect → Source
+
+unfoldable pub sourceFrom : Option Redirect → Source
+sourceFrom none = theAppId
+sourceFrom (some h) = redirect h
+
+unfoldable pub sourceIfFetch : Stage → Source → Source
+sourceIfFetch (listDue a) s = nowhere
+sourceIfFetch (settled rule1) s = nowhere
+sourceIfFetch (settled rule2) s = nowhere
+sourceIfFetch (settled rule3) s = nowhere
+sourceIfFetch (settled (rule4 n)) s = nowhere
+sourceIfFetch (settled (refused r)) s = nowhere
+sourceIfFetch (settled fetch) s = s
+
+-- caller, AppID, record and text
+unfoldable pub fetchSource : Bytes → Bytes → Bytes → Bytes → Source
+fetchSource caller appid items lent = sourceIfFetch (beforeList caller appid items lent) (sourceFrom (lastHop items lent))

@@ -3,7 +3,7 @@ use mathlib.Core.Path.{_≡_}
 use mathlib.Core.Bool.{Bool, true, false}
 use mathlib.Core.List.{List, [], _∷_}
 use mathlib.Core.Option.{Option, none, some, Option·getD}
-use Prim.Native.Nat.{ℕ, _-_, _≤_}
+use Prim.Native.Nat.{ℕ, _+_, _-_, _≤_, _<_}
 use lib.ListN.{length, take, drop}
 use Rattle.ascii.specs.Ascii.{Bytes, isNone}
 use Rattle.suffix.specs.Suffix.{readTable}
@@ -15,11 +15,13 @@ use Rattle.json_text.specs.Places.{readAt, fit}
 use Rattle.refusals.specs.declared.Refusal.{Refusal}
 use Rattle.refusals.specs.declared.Refusal.the-variants.{BadTable}
 use Rattle.trusted_list.specs.Slots.{idsAt}
+use Rattle.fetch_record.specs.Record.{Redirect}
 use Rattle.fetch_record.specs.Meaning.{answerOf as responseOf}
 use Rattle.causes.specs.Causes.{cause, kept}
 use Rattle.causes.specs.Owner.{Owns}
 use Rattle.decision.specs.Answer.{Answer, rule1, rule2, rule3, rule4, fetch, refused}
 use Rattle.decision.specs.Decide.{Stage, settled, listDue, firstMatch, byPlace, unless}
+use Rattle.decision.specs.Location.{Source, nowhere, theAppId, redirect}
 use Rattle.decision.specs.declared.Answer.{Answer as Given}
 use Rattle.decision.specs.declared.Answer.the-variants.{Rule1, Rule2, Rule3, Rule4, Fetch, Refused}
 use Rattle.decision.specs.declared.Stage.{Stage as Standing}
@@ -99,6 +101,13 @@ pub data Inside (lent : Bytes) : Location → Type 0 where
   app-place : Inside lent AppId
   text-place : {a b : ℕ} → a ≤ b → b ≤ length lent → Inside lent (Text a b)
 
-pub record Locates (appid lent : Bytes) (s : Bytes) (r : Location) : Type 0 where
+-- its places are those of the source
+pub data Stands : Source → Location → Type 0 where
+  at-nowhere : Stands nowhere Nothing
+  at-app : Stands theAppId AppId
+  at-hop : {h : Redirect} {a b : ℕ} → a ≡ h .start → b ≡ h .start + h .size → a < 65536 → b < 131072 → Stands (redirect h) (Text a b)
+
+pub record Locates (appid lent : Bytes) (s : Bytes) (source : Source) (r : Location) : Type 0 where
   pub is : locationOf appid lent r ≡ s
   pub inside : Inside lent r
+  pub stands : Stands source r

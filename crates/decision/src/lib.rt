@@ -9,9 +9,9 @@ use refusals::Refusal;
 use trusted_list::Selection;
 ghost use mathlib.Core.Path.{_≡_};
 ghost use Rattle.decision.specs.Decide.{isBadAppId, byFetch, beforeList, firstMatch, byPlace, byList, decide, listDue};
-ghost use Rattle.decision.specs.Location.{fetchFrom, fetchLocation};
+ghost use Rattle.decision.specs.Location.{fetchFrom, fetchLocation, sourceFrom, fetchSource};
 ghost use Rattle.decision.specs.Meaning.{answerOf, stageOf, IdsThere, entriesAt, matchOf, MatchesHeld, StepIs, Owned, byEntries, Locates};
-ghost use Rattle.fetch_record.specs.Meaning.{outcomeOf, answerOf as responseOf};
+ghost use Rattle.fetch_record.specs.Meaning.{outcomeOf, answerOf as responseOf, lastHop};
 ghost use Rattle.json_text.specs.Places.{content};
 ghost use Rattle.causes.specs.Causes.{kept};
 
@@ -259,7 +259,7 @@ pub enum Location {
 }
 
 fn last_target(items: &[u8], text: &[u8], appid: &[u8]) -> Location
-    ensures { λ r. ⌜ Locates (now (appid .entry)) (now (text .entry)) (fetchFrom (now (appid .entry)) (now (items .entry)) (now (text .entry))) r ⌝ }
+    ensures { λ r. ⌜ Locates (now (appid .entry)) (now (text .entry)) (fetchFrom (now (appid .entry)) (now (items .entry)) (now (text .entry))) (sourceFrom (lastHop (now (items .entry)) (now (text .entry)))) r ⌝ }
 {
     match fetch_record::last_location(items, text) {
         Target::NoRedirect => Location::AppId,
@@ -269,7 +269,7 @@ fn last_target(items: &[u8], text: &[u8], appid: &[u8]) -> Location
 
 // Where the list is to be fetched from; no part unless the decision is fetch.
 pub fn locate(caller: &[u8], appid: &[u8], items: &[u8], text: &[u8]) -> Location
-    ensures { λ r. ⌜ Locates (now (appid .entry)) (now (text .entry)) (fetchLocation (now (caller .entry)) (now (appid .entry)) (now (items .entry)) (now (text .entry))) r ⌝ }
+    ensures { λ r. ⌜ Locates (now (appid .entry)) (now (text .entry)) (fetchLocation (now (caller .entry)) (now (appid .entry)) (now (items .entry)) (now (text .entry))) (fetchSource (now (caller .entry)) (now (appid .entry)) (now (items .entry)) (now (text .entry))) r ⌝ }
 {
     match before_list(caller, appid, items, text) {
         Stage::ListDue(_) => Location::Nothing,

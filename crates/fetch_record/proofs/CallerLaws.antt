@@ -8,9 +8,9 @@ use lib.ListN.{length, take, drop}
 use Rattle.ascii.specs.Ascii.{Bytes, all, beginsWith, lastOf}
 use Rattle.refusals.specs.declared.Refusal.{Refusal}
 use Rattle.refusals.specs.declared.Refusal.the-variants.{BadRecord}
-use Rattle.fetch_record.specs.Record.{Answer, Fetched, readEnd, readItems, readRecord, hopRefusal, lastLocation}
+use Rattle.fetch_record.specs.Record.{Redirect, Answer, Fetched, readEnd, readItems, readRecord, hopRefusal, lastLocation}
 use Rattle.fetch_record.specs.Fetching.{Fetching, refused, fetch, answered, afterHops, byRecord, fetching}
-use Rattle.fetch_record.specs.Meaning.{answerOf, outcomeOf, target, partIn, TargetPlaced, target-in, Targets}
+use Rattle.fetch_record.specs.Meaning.{answerOf, outcomeOf, target, partIn, TargetPlaced, target-in, TargetOf, Targets}
 use Rattle.fetch_record.specs.declared.item.Answer.{Answer as AnswerItem}
 use Rattle.fetch_record.specs.declared.Outcome.{Outcome}
 use Rattle.fetch_record.specs.declared.Outcome.the-variants.{Refused, Fetch, Answered as Settled}
@@ -100,14 +100,14 @@ record Inside (lent : Bytes) (a b : ℕ) : Type 0 where
 inside : {lent : Bytes} {a b : ℕ} → TargetPlaced lent (Part a b) → Inside lent a b
 inside (target-in l h) = record { low = l; high = h }
 
-module _ {lent : Bytes} {o : Option Bytes} {q : Target} (T : Targets lent o q) where
+module _ {lent : Bytes} {o : Option Bytes} {l : Option Redirect} {q : Target} (T : Targets lent o l q) where
   pub target-none : q ≡ NoRedirect → o ≡ none
   unfolding partIn
   target-none h = sym (T .is) ∙ rw h
 
   module _ {a b : ℕ} (h : q ≡ Part a b) where
     I : Inside lent a b
-    I = let U : Targets lent o (Part a b) = rw h at T in inside (U .places)
+    I = let U : Targets lent o l (Part a b) = rw h at T in inside (U .places)
 
     pub target-some : o ≡ some (take (b - a) (drop a lent))
     unfolding partIn

@@ -18,9 +18,9 @@ use Rattle.origin.specs.declared.Reading.{Reading}
 use Rattle.origin.specs.declared.Reading.the-variants.{Found, Malformed as NoUrl}
 use Rattle.refusals.specs.declared.Refusal.{Refusal}
 use Rattle.refusals.specs.declared.Refusal.the-variants.{BadRecord, OpenRedirect, BadLocation}
-use Rattle.fetch_record.specs.Record.{Redirect, inText, location, lastLocation, readRecord, hopRefusal}
+use Rattle.fetch_record.specs.Record.{Redirect, inText, location, lastLocation, lastRedirect, readRecord, hopRefusal}
 use Rattle.fetch_record.specs.Fetching.{afterHops, byRecord, fetching}
-use Rattle.fetch_record.specs.Meaning.{redirectOf, answerOf, redirectIn, redirectAt, redirectsIn, Placed, layoutRead, LayoutPlaced, without, with-answer, Lays, hopsRead, afterHopsOf, outcomeOf, target, partIn, no-target, target-in, Targets}
+use Rattle.fetch_record.specs.Meaning.{redirectOf, answerOf, redirectIn, redirectAt, redirectsIn, Placed, layoutRead, LayoutPlaced, without, with-answer, Lays, hopsRead, afterHopsOf, outcomeOf, target, lastHop, partIn, no-target, target-in, TargetOf, of-none, of-hop, Targets}
 use Rattle.fetch_record.specs.declared.item.Redirect.{Redirect as RedirectItem}
 use Rattle.fetch_record.specs.declared.item.Answer.{Answer as AnswerItem}
 use Rattle.fetch_record.specs.declared.Layout.{Layout}
@@ -207,23 +207,26 @@ module _ {items lent : Bytes} {q : Layout} (L : Lays items lent q) where
   settle-answered {a} h e f g = rw (g, ← layout-is, e, ← f) (settles-answered h a)
 
   -- the last Location
-  pub target-bad : q ≡ Malformed → Targets lent (target items lent) NoRedirect
+  pub target-bad : q ≡ Malformed → Targets lent (target items lent) (lastHop items lent) NoRedirect
   unfolding target partIn layoutRead
-  target-bad e = record { is = rw (← layout-is, e); places = no-target }
+  target-bad e = record { is = rw (← layout-is, e); places = no-target; hop = go }
+    where
+      go : TargetOf (lastHop items lent) NoRedirect
+      go = unfold lastHop layoutRead in (rw (← layout-is, e) of-none)
 
-  pub target-unanswered : {n : ℕ} {r : Target} → q ≡ Unanswered n → Targets lent (lastLocation lent (redirectsIn n items)) r → Targets lent (target items lent) r
-  unfolding target layoutRead
-  target-unanswered e T = record { is = T .is ∙ sym (rw (← layout-is, e)); places = T .places }
+  pub target-unanswered : {n : ℕ} {r : Target} → q ≡ Unanswered n → Targets lent (lastLocation lent (redirectsIn n items)) (lastRedirect (redirectsIn n items)) r → Targets lent (target items lent) (lastHop items lent) r
+  unfolding target lastHop layoutRead
+  target-unanswered e T = record { is = T .is ∙ sym (rw (← layout-is, e)); places = T .places; hop = rw (← layout-is, e) (T .hop) }
 
-  pub target-answered : {n : ℕ} {a : AnswerItem} {r : Target} → q ≡ Answered n a → Targets lent (lastLocation lent (redirectsIn n items)) r → Targets lent (target items lent) r
-  unfolding target layoutRead
-  target-answered e T = record { is = T .is ∙ sym (rw (← layout-is, e)); places = T .places }
+  pub target-answered : {n : ℕ} {a : AnswerItem} {r : Target} → q ≡ Answered n a → Targets lent (lastLocation lent (redirectsIn n items)) (lastRedirect (redirectsIn n items)) r → Targets lent (target items lent) (lastHop items lent) r
+  unfolding target lastHop layoutRead
+  target-answered e T = record { is = T .is ∙ sym (rw (← layout-is, e)); places = T .places; hop = rw (← layout-is, e) (T .hop) }
 
 -- ---- the last of n redirects
 
-pub last-none : (items lent : Bytes) (n : ℕ) → n ≡ 0 → Targets lent (lastLocation lent (redirectsIn n items)) NoRedirect
-unfolding partIn lastLocation lastOf redirectsIn
-last-none items lent n e = record { is = rw e; places = no-target }
+pub last-none : (items lent : Bytes) (n : ℕ) → n ≡ 0 → Targets lent (lastLocation lent (redirectsIn n items)) (lastRedirect (redirectsIn n items)) NoRedirect
+unfolding partIn lastLocation lastRedirect lastOf redirectsIn
+last-none items lent n e = record { is = rw e; places = no-target; hop = rw e of-none }
 
 last-snoc : (lent : Bytes) (hs : List Redirect) (h : Redirect) → lastLocation lent (hs ++ (h ∷ [])) ≡ some (location lent h)
 unfolding lastLocation lastOf
@@ -234,14 +237,24 @@ unfolding redirectsIn
 last-is items lent zero z = absurd (z refl)
 last-is items lent (suc m) z = let e : suc m - 1 ≡ m = omega arith in rw (last-snoc lent (redirectsIn m items) (redirectAt m items), e)
 
-pub last-part : {items lent : Bytes} {n end : ℕ} (h : RedirectItem) → Placed items lent n → (n ≡ 0 → ⊥) → redirectOf h ≡ redirectAt (n - 1) items → end ≡ h .start + h .size
-    → Targets lent (lastLocation lent (redirectsIn n items)) (Part (h .start) end)
+hop-snoc : (hs : List Redirect) (h : Redirect) → lastRedirect (hs ++ (h ∷ [])) ≡ some h
+unfolding lastRedirect lastOf
+hop-snoc hs h = rw (drop-at hs (h ∷ []) (length (hs ++ (h ∷ [])) - 1) (omega (arith, length-append hs (h ∷ []))))
+
+last-hop : (items : Bytes) (n : ℕ) → (n ≡ 0 → ⊥) → lastRedirect (redirectsIn n items) ≡ some (redirectAt (n - 1) items)
+unfolding redirectsIn
+last-hop items zero z = absurd (z refl)
+last-hop items (suc m) z = let e : suc m - 1 ≡ m = omega arith in rw (hop-snoc (redirectsIn m items) (redirectAt m items), e)
+
+pub last-part : {items lent : Bytes} {n end : ℕ} (h : RedirectItem) → Placed items lent n → (n ≡ 0 → ⊥) → redirectOf h ≡ redirectAt (n - 1) items → end ≡ h .start + h .size → h .start < 65536 → h .size < 65536
+    → Targets lent (lastLocation lent (redirectsIn n items)) (lastRedirect (redirectsIn n items)) (Part (h .start) end)
 unfolding partIn redirectOf location
-last-part {items} {lent} {n} {end} h P z e f =
+last-part {items} {lent} {n} {end} h P z e f s t =
     let y : end - h .start ≡ h .size = omega arith in
     record {
       is = rw (last-is items lent n z, ← e, y);
       places = target-in {a = h .start} {b = end} (omega arith) (hop-end lent h (hop-inside (n - 1) h P (omega arith) e) f);
+      hop = rw (last-hop items n z, ← e) (of-hop {h = redirectOf h} {a = h .start} {b = end} refl f s (omega arith));
     }
 
 pub last-long : {items lent : Bytes} {n : ℕ} → Placed items lent n → (n ≡ 0 → ⊥) → 8 * (n - 1) + 8 ≤ length items

@@ -3,12 +3,12 @@ use mathlib.Core.Path.{_≡_}
 use mathlib.Core.Bool.{true}
 use mathlib.Core.List.{List, [], _∷_, _++_}
 use mathlib.Core.Option.{Option, none, some}
-use Prim.Native.Nat.{ℕ, zero, suc, _+_, _-_, _*_, _≤_}
+use Prim.Native.Nat.{ℕ, zero, suc, _+_, _-_, _*_, _≤_, _<_}
 use lib.ListN.{length, take, drop, getD}
 use lib.Dec.{eqb}
 use Rattle.ascii.specs.Ascii.{Bytes, _>>=_, all}
 use Rattle.refusals.specs.declared.Refusal.{Refusal}
-use Rattle.fetch_record.specs.Record.{Redirect, Answer, Fetched, number, readEnd, inText, lastLocation, readRecord}
+use Rattle.fetch_record.specs.Record.{Redirect, Answer, Fetched, number, readEnd, inText, lastLocation, lastRedirect, readRecord}
 use Rattle.fetch_record.specs.Fetching.{Fetching, refused, fetch, answered}
 use Rattle.fetch_record.specs.declared.item.Redirect.{Redirect as RedirectItem}
 use Rattle.fetch_record.specs.declared.item.Answer.{Answer as AnswerItem}
@@ -125,6 +125,10 @@ outcomeOf (Settled a) = answered (answerOf a)
 unfoldable pub target : Bytes → Bytes → Option Bytes
 target items lent = readRecord items lent >>= λ f. lastLocation lent (f .redirects)
 
+-- the last redirect itself
+unfoldable pub lastHop : Bytes → Bytes → Option Redirect
+lastHop items lent = readRecord items lent >>= λ f. lastRedirect (f .redirects)
+
 unfoldable pub partIn : Bytes → Target → Option Bytes
 partIn lent NoRedirect = none
 partIn lent (Part a b) = some (take (b - a) (drop a lent))
@@ -134,6 +138,12 @@ pub data TargetPlaced (lent : Bytes) : Target → Type 0 where
   no-target : TargetPlaced lent NoRedirect
   target-in : {a b : ℕ} → a ≤ b → b ≤ length lent → TargetPlaced lent (Part a b)
 
-pub record Targets (lent : Bytes) (o : Option Bytes) (r : Target) : Type 0 where
+-- they are those of a redirect
+pub data TargetOf : Option Redirect → Target → Type 0 where
+  of-none : TargetOf none NoRedirect
+  of-hop : {h : Redirect} {a b : ℕ} → a ≡ h .start → b ≡ h .start + h .size → a < 65536 → b < 131072 → TargetOf (some h) (Part a b)
+
+pub record Targets (lent : Bytes) (o : Option Bytes) (l : Option Redirect) (r : Target) : Type 0 where
   pub is : partIn lent r ≡ o
   pub places : TargetPlaced lent r
+  pub hop : TargetOf l r

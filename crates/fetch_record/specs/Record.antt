@@ -78,6 +78,10 @@ location lent h = take (h .size) (drop (h .start) lent)
 unfoldable pub lastLocation : Bytes → List Redirect → Option Bytes
 lastLocation lent hs = head? (map (location lent) (lastOf 1 hs))
 
+-- the last redirect; none where there is no redirect
+unfoldable pub lastRedirect : List Redirect → Option Redirect
+lastRedirect hs = head? (lastOf 1 hs)
+
 -- ---- the record and its refusals
 
 -- at most 8 redirects, then at most one answer, then the end; none: a bad record

@@ -12,9 +12,9 @@ ghost use mathlib.Core.Bool.{true};
 ghost use mathlib.Core.List.{[], _∷_};
 ghost use Prim.Native.Nat.{_+_, _*_, _≤_};
 ghost use lib.ListN.{length};
-ghost use Rattle.fetch_record.specs.Record.{readEnd, inText, hopRefusal, lastLocation};
+ghost use Rattle.fetch_record.specs.Record.{readEnd, inText, hopRefusal, lastLocation, lastRedirect};
 ghost use Rattle.fetch_record.specs.Fetching.{fetching};
-ghost use Rattle.fetch_record.specs.Meaning.{redirectOf, redirectAt, redirectsIn, endRead, Placed, Counts, Lays, hopsRead, outcomeOf, afterHopsOf, target, Targets};
+ghost use Rattle.fetch_record.specs.Meaning.{redirectOf, redirectAt, redirectsIn, endRead, Placed, Counts, Lays, hopsRead, outcomeOf, afterHopsOf, target, lastHop, Targets};
 
 // What stands behind the redirects.
 enum End {
@@ -187,7 +187,7 @@ pub fn fetching(items: &[u8], text: &[u8]) -> Outcome
 
 // Where the last redirect's Location stands in the text; NoRedirect for a bad record.
 pub fn last_location(items: &[u8], text: &[u8]) -> Target
-    ensures { λ r. ⌜ Targets (now (text .entry)) (target (now (items .entry)) (now (text .entry))) r ⌝ }
+    ensures { λ r. ⌜ Targets (now (text .entry)) (target (now (items .entry)) (now (text .entry))) (lastHop (now (items .entry)) (now (text .entry))) r ⌝ }
 {
     match lay(items, text) {
         Layout::Unanswered(n) => last_of(items, text, n),
@@ -199,7 +199,7 @@ pub fn last_location(items: &[u8], text: &[u8]) -> Target
 // The Location of the last of the first n redirects.
 fn last_of(items: &[u8], text: &[u8], n: usize) -> Target
     requires { ⌜ Placed (now items) (now text) n ⌝ }
-    ensures { λ r. ⌜ Targets (now (text .entry)) (lastLocation (now (text .entry)) (redirectsIn n (now (items .entry)))) r ⌝ }
+    ensures { λ r. ⌜ Targets (now (text .entry)) (lastLocation (now (text .entry)) (redirectsIn n (now (items .entry)))) (lastRedirect (redirectsIn n (now (items .entry)))) r ⌝ }
 {
     if n == 0 {
         return Target::NoRedirect;
