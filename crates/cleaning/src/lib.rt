@@ -1,4 +1,4 @@
-// Cleaning: the ids as they are written, their length first, then their bytes. The list around them and the tally are to come.
+// Cleaning: the ids as they are written, their length first, then their bytes. The list around them, the calls and the tally are to come.
 use causes::Verdict;
 use json_text::Decoded;
 use json_text::Next;
@@ -133,7 +133,16 @@ fn write_held(first: bool, d: Decoded, out: &mut [u8], at: usize) -> usize
 }
 
 // The id of an entry, where it is kept.
-fn write_entry(first: bool, label: &[u8], deeper: bool, body: &[u8], at: usize, table: &[u8], out: &mut [u8], to: usize) -> Put
+fn write_entry(
+    first: bool,
+    label: &[u8],
+    deeper: bool,
+    body: &[u8],
+    at: usize,
+    table: &[u8],
+    out: &mut [u8],
+    to: usize,
+) -> Put
     ensures { λ r. ⌜ PutIs first (now (table .entry)) (now (label .entry)) deeper (now (body .entry)) at to (now (out .entry)) (now (out .exit)) r ⌝ }
 {
     let t = json_text::decoding::decode_string(body, at);
@@ -155,7 +164,17 @@ fn write_entry(first: bool, label: &[u8], deeper: bool, body: &[u8], at: usize, 
 }
 
 // The ids, from a place of the output on.
-fn write_ids(appid: &[u8], start: usize, end: usize, deeper: bool, body: &[u8], ids: usize, table: &[u8], out: &mut [u8], begin: usize) -> usize
+fn write_ids(
+    appid: &[u8],
+    start: usize,
+    end: usize,
+    deeper: bool,
+    body: &[u8],
+    ids: usize,
+    table: &[u8],
+    out: &mut [u8],
+    begin: usize,
+) -> usize
     requires { ⌜ Owned (now appid) (now table) start end deeper × IdsThere (now body) ids × (begin + length (idsText true (names (now appid) (now table) (entriesAt (now body) ids))) ≤ length (now out)) ⌝ }
     ensures { λ r. ⌜ Wrote (idsText true (names (now (appid .entry)) (now (table .entry)) (entriesAt (now (body .entry)) ids))) begin (now (out .entry)) (now (out .exit)) r ⌝ }
 {
@@ -165,7 +184,16 @@ fn write_ids(appid: &[u8], start: usize, end: usize, deeper: bool, body: &[u8], 
     let mut at = i;
     let mut to = begin;
     loop {
-        match write_entry(to == begin, &appid[start..end], deeper, body, at, table, out, to) {
+        match write_entry(
+            to == begin,
+            &appid[start..end],
+            deeper,
+            body,
+            at,
+            table,
+            out,
+            to,
+        ) {
             Put::Stuck => {
                 return to;
             }
