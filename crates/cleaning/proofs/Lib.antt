@@ -6,4 +6,5 @@ pub mod Rereading
 pub mod Twice
 pub mod Example
 pub mod SizeLaws
+pub mod WriteLaws
 pub mod Laws

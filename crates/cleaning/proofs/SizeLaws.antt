@@ -175,7 +175,7 @@ pub record Sizes (appid table : Bytes) (start end : ℕ) (deeper : Bool) (s : By
   pub coming : Coming s (At at) es
   pub is : n + length (idsText (eqb n 0) (names appid table es)) ≡ goal
 
-no-names : (appid table : Bytes) → names appid table [] ≡ []
+pub no-names : (appid table : Bytes) → names appid table [] ≡ []
 unfolding names kept filterBy
 no-names appid table = refl
 

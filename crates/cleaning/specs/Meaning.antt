@@ -16,6 +16,8 @@ use Rattle.json_text.specs.Places.{readAt, fit}
 use Rattle.causes.specs.Causes.{cause, kept}
 use Rattle.causes.specs.Owner.{Owns}
 use Rattle.cleaning.specs.Clean.{quoted}
+use Rattle.cleaning.specs.declared.Put.{Put}
+use Rattle.cleaning.specs.declared.Put.the-variants.{Stuck, Moves}
 use Rattle.cleaning.specs.declared.Sized.{Sized}
 use Rattle.cleaning.specs.declared.Sized.the-variants.{Wrong, Goes}
 
@@ -55,3 +57,18 @@ pub record SizedIs (first : Bool) (table label : Bytes) (deeper : Bool) (body : 
 pub data Small : Sized → Type 0 where
   no-size : Small Wrong
   small-size : {j k : ℕ} → k ≤ 515 → Small (Goes j k)
+
+-- ---- writing
+
+-- the id of an entry of which at most 512 bytes are held is written, where there is room for it
+pub record HeldWrote (first : Bool) (held : Option Bytes) (at : ℕ) (before after : Bytes) (r : ℕ) : Type 0 where
+  pub is : (entry : Bytes) → length entry ≤ 512 → held ≡ fit entry → at + length (idText first (normalForm entry)) ≤ length before → Wrote (idText first (normalForm entry)) at before after r
+
+-- a kept entry's id is written, and another entry changes nothing
+pub data Puts (first : Bool) (appid table entry : Bytes) (end to : ℕ) (before after : Bytes) : Put → Type 0 where
+  puts-it : {m : ℕ} → isNone (cause appid table entry) ≡ true
+      → (to + length (idText first (normalForm entry)) ≤ length before → Wrote (idText first (normalForm entry)) to before after m) → Puts first appid table entry end to before after (Moves end m)
+  puts-none : isNone (cause appid table entry) ≡ false → after ≡ before → Puts first appid table entry end to before after (Moves end to)
+
+pub record PutIs (first : Bool) (table label : Bytes) (deeper : Bool) (body : Bytes) (at to : ℕ) (before after : Bytes) (r : Put) : Type 0 where
+  pub is : (appid entry : Bytes) (end : ℕ) → Owns appid table label deeper → readAt readString body at ≡ got entry end → Puts first appid table entry end to before after r
