@@ -123,10 +123,10 @@ fn ids_length(
             }
             Sized::Goes(j, k) => {
                 n += k;
-                let Next::At(next) = trusted_list::next_entry(body, j) else {
+                let Next::At(after) = trusted_list::next_entry(body, j) else {
                     return n;
                 };
-                at = next;
+                at = after;
             }
         }
     }
