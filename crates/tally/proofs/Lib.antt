@@ -1,0 +1,3 @@
+pub mod TallyTotal
+pub mod CountLaws
+pub mod Laws
