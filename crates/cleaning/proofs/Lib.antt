@@ -6,4 +6,6 @@ pub mod Twice
 pub mod Example
 pub mod SizeLaws
 pub mod WriteLaws
+pub mod PrepareLaws
+pub mod ListLaws
 pub mod Laws

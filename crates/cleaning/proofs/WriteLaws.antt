@@ -13,7 +13,7 @@ use borrow.Author.Tests.{eq-eqb, ne-eqb, lt-ltb, le-ltb, le-leb}
 use Rattle.ascii.specs.Ascii.{Bytes, if_then_else_, isNone, text}
 use Rattle.origin.specs.Origin.{normalForm}
 use Rattle.origin.specs.Parts.{writtenAt, behind, Wrote}
-use Rattle.origin.proofs.Writings.{wrote-then}
+use Rattle.origin.proofs.Writings.{wrote-place, wrote-length, wrote-then}
 use Rattle.json_text.specs.Reader.{got}
 use Rattle.json_text.specs.Lexical.{readString}
 use Rattle.json_text.specs.Places.{readAt, placeOf, fit, content, contentOf, Holds}
@@ -136,16 +136,6 @@ module _ (first : Bool) (table label : Bytes) (deeper : Bool) (s : Bytes) (at to
         go h = unfold causeOf in (rw h)
 
 -- ---- the loop
-
-wrote-place : {x : Bytes} {at : ℕ} {o o₁ : Bytes} {a : ℕ} → Wrote x at o o₁ a → at + length x ≤ length o → a ≡ at + length x
-unfolding behind
-wrote-place {x} {at} {o} W h = W .place ∙ rw (le-leb (at + length x) (length o) h)
-
-wrote-length : {x : Bytes} {at : ℕ} {o o₁ : Bytes} {a : ℕ} → Wrote x at o o₁ a → at + length x ≤ length o → length o₁ ≡ length o
-unfolding writtenAt
-wrote-length {x} {at} {o} {o₁} W h =
-    let e : o₁ ≡ take at o ++ x ++ drop (at + length x) o = W .is ∙ rw (le-leb (at + length x) (length o) h) in
-    omega (arith, ap length e, length-append (take at o ++ x) (drop (at + length x) o), length-append (take at o) x, length-take-le at o (omega arith), length-drop (at + length x) o)
 
 id-some : (first : Bool) (x : Bytes) → 1 ≤ length (idText first x)
 id-some true x = omega (arith, id-length true x)

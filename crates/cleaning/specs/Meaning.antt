@@ -5,9 +5,9 @@ use mathlib.Core.List.{List, [], _∷_, _++_, map}
 use mathlib.Core.Option.{Option, none, some}
 use Prim.Native.Nat.{ℕ, _+_, _-_, _≤_}
 use Prim.Native.Char.{code}
-use lib.ListN.{length, take}
+use lib.ListN.{length, take, drop}
 use lib.Dec.{eqb}
-use Rattle.ascii.specs.Ascii.{Bytes, if_then_else_, isNone, text, prefixed, joinWith}
+use Rattle.ascii.specs.Ascii.{Bytes, if_then_else_, isNone, text, prefixed, joinWith, decimal}
 use Rattle.origin.specs.Origin.{normalForm}
 use Rattle.origin.specs.Parts.{Wrote}
 use Rattle.json_text.specs.Reader.{got}
@@ -15,11 +15,35 @@ use Rattle.json_text.specs.Lexical.{readString}
 use Rattle.json_text.specs.Places.{readAt, fit}
 use Rattle.causes.specs.Causes.{cause, kept}
 use Rattle.causes.specs.Owner.{Owns}
-use Rattle.cleaning.specs.Clean.{quoted}
+use Rattle.decision.specs.Meaning.{Owned, IdsThere, entriesAt}
+use Rattle.refusals.specs.declared.Refusal.{Refusal}
+use Rattle.trusted_list.specs.TrustedList.{entries}
+use Rattle.cleaning.specs.Clean.{quoted, cleanRefusal, Cleaned, notCleaned, cleaned}
+use Rattle.cleaning.specs.declared.Output.{Output}
+use Rattle.cleaning.specs.declared.Output.the-variants.{Refused as NotWritten, Length}
+use Rattle.cleaning.specs.declared.Ready.{Ready}
+use Rattle.cleaning.specs.declared.Ready.the-variants.{Refused, Listed}
 use Rattle.cleaning.specs.declared.Put.{Put}
 use Rattle.cleaning.specs.declared.Put.the-variants.{Stuck, Moves}
 use Rattle.cleaning.specs.declared.Sized.{Sized}
 use Rattle.cleaning.specs.declared.Sized.the-variants.{Wrong, Goes}
+
+-- ---- before the list is written
+
+-- nothing but refusal 15 is left; the AppID's label and the selected ids stand at these places
+pub record ListedAt (appid : Bytes) (major minor : ℕ) (body table : Bytes) (start end : ℕ) (deeper : Bool) (ids : ℕ) : Type 0 where
+  pub none-fits : cleanRefusal appid major minor body table ≡ none
+  pub short : length body ≤ 65536
+  pub owned : Owned appid table start end deeper
+  pub there : IdsThere body ids
+  pub is : entriesAt body ids ≡ entries major minor body
+
+pub data Prepares (appid : Bytes) (major minor : ℕ) (body table : Bytes) : Ready → Type 0 where
+  is-refused : {x : Refusal} → cleanRefusal appid major minor body table ≡ some x → Prepares appid major minor body table (Refused x)
+  is-listed : {start end : ℕ} {deeper : Bool} {ids : ℕ} → ListedAt appid major minor body table start end deeper ids
+      → Prepares appid major minor body table (Listed start end deeper ids)
+
+-- ---- the ids
 
 -- the normal forms of the kept entries
 unfoldable pub names : Bytes → Bytes → List Bytes → List Bytes
@@ -72,3 +96,17 @@ pub data Puts (first : Bool) (appid table entry : Bytes) (end to : ℕ) (before 
 
 pub record PutIs (first : Bool) (table label : Bytes) (deeper : Bool) (body : Bytes) (at to : ℕ) (before after : Bytes) (r : Put) : Type 0 where
   pub is : (appid entry : Bytes) (end : ℕ) → Owns appid table label deeper → readAt readString body at ≡ got entry end → Puts first appid table entry end to before after r
+
+-- ---- the whole list
+
+-- what stands before the ids
+unfoldable pub listHead : ℕ → ℕ → Bytes
+listHead major minor =
+    text "{\"trustedFacets\":[{\"version\":{\"major\":" ++ decimal major
+    ++ text ",\"minor\":" ++ decimal minor
+    ++ text "},\"ids\":["
+
+-- what the code answers, and the output's bytes before and after
+pub data Cleans (before after : Bytes) : Cleaned → Output → Type 0 where
+  refuses : {x : Refusal} → after ≡ before → Cleans before after (notCleaned x) (NotWritten x)
+  writes : {list : Bytes} {n : ℕ} → n ≡ length list → after ≡ list ++ drop (length list) before → Cleans before after (cleaned list) (Length n)

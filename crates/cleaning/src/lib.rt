@@ -1,15 +1,50 @@
-// Cleaning: the ids as they are written, their length first, then their bytes. The list around them, the calls and the tally are to come.
+// Cleaning: what is refused, the length of the list, its bytes.
+use causes::AppOwner;
 use causes::Verdict;
 use json_text::Decoded;
 use json_text::Next;
+use refusals::Refusal;
+use trusted_list::Selection;
 ghost use mathlib.Core.Path.{_≡_};
 ghost use Prim.Native.Nat.{_+_, _≤_};
 ghost use lib.ListN.{length};
 ghost use Rattle.json_text.specs.Places.{content};
 ghost use Rattle.decision.specs.Meaning.{Owned, IdsThere, entriesAt};
 ghost use Rattle.origin.specs.Parts.{Wrote};
-ghost use Rattle.cleaning.specs.Meaning.{names, opening, idsText, HeldLength, SizedIs, Small, HeldWrote, PutIs};
+ghost use Rattle.ascii.specs.Ascii.{decimal};
+ghost use Rattle.cleaning.specs.Clean.{cleanedList, fitting, clean};
+ghost use Rattle.cleaning.specs.Meaning.{ListedAt, Prepares, names, opening, idsText, HeldLength, SizedIs, Small, HeldWrote, PutIs, listHead, Cleans};
 ghost use mathlib.Core.Bool.{true};
+ghost use lib.Dec.{leb};
+
+// ---- before the list is written
+
+// A refusal; or where the AppID's label begins and ends, whether a rule goes deeper, and where the selected ids stand.
+pub enum Ready {
+    Refused(Refusal),
+    Listed(usize, usize, bool, usize),
+}
+
+// Refusals 2, 3 and 9 to 13.
+pub fn prepare(appid: &[u8], major: u16, minor: u16, body: &[u8], table: &[u8]) -> Ready
+    ensures { λ r. ⌜ Prepares (now (appid .entry)) major minor (now (body .entry)) (now (table .entry)) r ⌝ }
+{
+    if decision::is_bad_appid(appid) {
+        return Ready::Refused(Refusal::BadAppId);
+    }
+    if origin::begins_https(appid) {
+        return match trusted_list::select(body, major, minor) {
+            Selection::Refused(x) => Ready::Refused(x),
+            Selection::Ids(ids) => match causes::find_owner(appid, table) {
+                AppOwner::BadTable => Ready::Refused(Refusal::BadTable),
+                AppOwner::Label(start, end, deeper) => Ready::Listed(start, end, deeper, ids),
+            },
+        };
+    }
+    Ready::Refused(Refusal::ForeignAppId)
+}
+
+// ---- the length of the ids
 
 // What an entry adds to the length of the list: it ends at a place, and adds so many bytes; or it is no string.
 pub enum Sized {
@@ -97,7 +132,7 @@ fn ids_length(
     }
 }
 
-// ---- the bytes
+// ---- the bytes of the ids
 
 // An entry ends at a place, and the next id is written at another; or it is no string.
 pub enum Put {
@@ -205,5 +240,131 @@ fn write_ids(
                 at = next;
             }
         }
+    }
+}
+
+// ---- the whole list
+
+// A refusal, or the length of the list that is written.
+pub enum Output {
+    Refused(Refusal),
+    Length(usize),
+}
+
+fn decimal_length(n: u16) -> usize
+    ensures { λ r. ⌜ (r ≡ length (decimal n)) × (r ≤ 5) ⌝ }
+{
+    let d = ascii::decimals::write_number(n);
+    d.len
+}
+
+// The list goes into so many bytes. It is never longer than the body.
+fn has_room(
+    appid: &[u8],
+    start: usize,
+    end: usize,
+    deeper: bool,
+    major: u16,
+    minor: u16,
+    body: &[u8],
+    ids: usize,
+    table: &[u8],
+    room: usize,
+) -> bool
+    requires { ⌜ ListedAt (now appid) major minor (now body) (now table) start end deeper ids ⌝ }
+    ensures { λ r. ⌜ r ≡ leb (length (cleanedList (now (appid .entry)) major minor (now (body .entry)) (now (table .entry)))) room ⌝ }
+{
+    if body.len() <= room {
+        return true;
+    }
+    let n = ids_length(appid, start, end, deeper, body, ids, table);
+    let a = decimal_length(major);
+    let b = decimal_length(minor);
+    n + a + b + 60 <= room
+}
+
+// A number, written as by write_bytes.
+fn write_decimal(n: u16, out: &mut [u8], at: usize) -> usize
+    ensures { λ r. ⌜ Wrote (decimal n) at (now (out .entry)) (now (out .exit)) r ⌝ }
+{
+    let d = ascii::decimals::write_number(n);
+    let k = d.len;
+    let digits = d.digits;
+    origin::normal::write_bytes(&digits[0..k], out, at)
+}
+
+// What stands before the ids.
+fn write_head(major: u16, minor: u16, out: &mut [u8]) -> usize
+    requires { ⌜ length (listHead major minor) ≤ length (now out) ⌝ }
+    ensures { λ r. ⌜ Wrote (listHead major minor) 0 (now (out .entry)) (now (out .exit)) r ⌝ }
+{
+    let a = origin::normal::write_bytes(b"{\"trustedFacets\":[{\"version\":{\"major\":", out, 0);
+    let b = write_decimal(major, out, a);
+    let c = origin::normal::write_bytes(b",\"minor\":", out, b);
+    let d = write_decimal(minor, out, c);
+    origin::normal::write_bytes(b"},\"ids\":[", out, d)
+}
+
+// Refusal 15 before any byte is written, or the list.
+fn write_list(
+    appid: &[u8],
+    start: usize,
+    end: usize,
+    deeper: bool,
+    major: u16,
+    minor: u16,
+    body: &[u8],
+    ids: usize,
+    table: &[u8],
+    out: &mut [u8],
+) -> Output
+    requires { ⌜ ListedAt (now appid) major minor (now body) (now table) start end deeper ids ⌝ }
+    ensures { λ r. ⌜ Cleans (now (out .entry)) (now (out .exit)) (fitting (length (now (out .entry))) (cleanedList (now (appid .entry)) major minor (now (body .entry)) (now (table .entry)))) r ⌝ }
+{
+    let room = out.len();
+    if has_room(
+        appid,
+        start,
+        end,
+        deeper,
+        major,
+        minor,
+        body,
+        ids,
+        table,
+        room,
+    ) {
+        let a = write_head(major, minor, out);
+        let b = write_ids(appid, start, end, deeper, body, ids, table, out, a);
+        let n = origin::normal::write_bytes(b"]}]}", out, b);
+        return Output::Length(n);
+    }
+    Output::Refused(Refusal::Full)
+}
+
+pub fn clean(
+    appid: &[u8],
+    major: u16,
+    minor: u16,
+    body: &[u8],
+    table: &[u8],
+    out: &mut [u8],
+) -> Output
+    ensures { λ r. ⌜ Cleans (now (out .entry)) (now (out .exit)) (clean (now (appid .entry)) major minor (now (body .entry)) (now (table .entry)) (now (out .entry))) r ⌝ }
+{
+    match prepare(appid, major, minor, body, table) {
+        Ready::Refused(x) => Output::Refused(x),
+        Ready::Listed(start, end, deeper, ids) => write_list(
+            appid,
+            start,
+            end,
+            deeper,
+            major,
+            minor,
+            body,
+            ids,
+            table,
+            out,
+        ),
     }
 }

@@ -80,18 +80,18 @@ pasted-lower x i P h e = paste-more P h (getD-lower x i h ∙ sym e)
 -- ---- one behind the other
 
 module _ {x : Bytes} {at : ℕ} {o o₁ : Bytes} {a : ℕ} (W : Wrote x at o o₁ a) (h : at + length x ≤ length o) where
-  wrote-is : o₁ ≡ take at o ++ x ++ drop (at + length x) o
+  pub wrote-is : o₁ ≡ take at o ++ x ++ drop (at + length x) o
   unfolding writtenAt
   wrote-is = W .is ∙ rw (le-leb (at + length x) (length o) h)
 
-  wrote-place : a ≡ at + length x
+  pub wrote-place : a ≡ at + length x
   unfolding behind
   wrote-place = W .place ∙ rw (le-leb (at + length x) (length o) h)
 
   front-length : length (take at o ++ x) ≡ at + length x
   front-length = omega (arith, length-append (take at o) x, length-take-le at o (omega arith))
 
-  wrote-length : length o₁ ≡ length o
+  pub wrote-length : length o₁ ≡ length o
   wrote-length =
       omega (
         arith,

@@ -1,0 +1,120 @@
+-- What is refused before the list is written: one law for each way through the code.
+use mathlib.Core.Path.{_≡_, refl, sym, ap, _∙_}
+use mathlib.Core.Bool.{Bool, true, false, not}
+use mathlib.Core.List.{List, []}
+use mathlib.Core.Option.{Option, none, some, Option·getD}
+use Prim.Native.Nat.{ℕ}
+use native.Mathlib.Omega.{arith}
+use Rattle.ascii.specs.Ascii.{Bytes, _when_, _orElse_, isNone}
+use Rattle.suffix.specs.Suffix.{readTable}
+use Rattle.origin.specs.Origin.{beginsHttps}
+use Rattle.refusals.specs.declared.Refusal.{Refusal}
+use Rattle.refusals.specs.declared.Refusal.the-variants.{BadAppId, ForeignAppId, BadTable}
+use Rattle.trusted_list.specs.TrustedList.{listRefusal, entries}
+use Rattle.trusted_list.specs.Slots.{idsAt, Answers, is-refused as list-refused, is-selected}
+use Rattle.trusted_list.specs.declared.Selection.{Selection}
+use Rattle.trusted_list.specs.declared.Selection.the-variants.{Refused as ListRefused, Ids}
+use Rattle.trusted_list.proofs.Acceptance.{accepted-selects}
+use Rattle.causes.specs.Owner.{OwnedBy, bad-table, owned}
+use Rattle.causes.specs.declared.AppOwner.{AppOwner}
+use Rattle.causes.specs.declared.AppOwner.the-variants.{BadTable as NoTable, Label}
+use Rattle.decision.specs.Decide.{isBadAppId}
+use Rattle.decision.specs.Meaning.{Owned, IdsThere, entriesAt}
+use Rattle.decision.proofs.ListLaws.{ids-owned}
+use Rattle.cleaning.specs.Clean.{cleanRefusal}
+use Rattle.cleaning.specs.Meaning.{ListedAt, Prepares, is-refused, is-listed}
+use Rattle.cleaning.specs.declared.Ready.{Ready}
+use Rattle.cleaning.specs.declared.Ready.the-variants.{Refused, Listed}
+
+no-table : {appid table : Bytes} {w : AppOwner} → OwnedBy appid table w → w ≡ NoTable → isNone (readTable table) ≡ true
+no-table (bad-table t) h = rw t
+no-table (owned a b c d) h = let z : _≡_ {A = ℕ} 0 1 = cc in absurd (omega arith)
+
+some-table : {appid table : Bytes} {w : AppOwner} {i j : ℕ} {d : Bool} → OwnedBy appid table w → w ≡ Label i j d → isNone (readTable table) ≡ false
+some-table (bad-table t) h = let z : _≡_ {A = ℕ} 0 1 = cc in absurd (omega arith)
+some-table (owned a b c d) h = a
+
+is-list-refused : {major minor : ℕ} {body : Bytes} {q : Selection} {x : Refusal} → Answers major minor body q → q ≡ ListRefused x → listRefusal major minor body ≡ some x
+is-list-refused (list-refused {r} e) h = e ∙ ap some cc
+is-list-refused (is-selected e f) h = let z : _≡_ {A = ℕ} 0 1 = cc in absurd (omega arith)
+
+is-accepted : {major minor : ℕ} {body : Bytes} {q : Selection} {p : ℕ} → Answers major minor body q → q ≡ Ids p → listRefusal major minor body ≡ none
+is-accepted (list-refused e) h = let z : _≡_ {A = ℕ} 0 1 = cc in absurd (omega arith)
+is-accepted (is-selected e f) h = e
+
+is-ids : {major minor : ℕ} {body : Bytes} {q : Selection} {p : ℕ} → Answers major minor body q → q ≡ Ids p → idsAt body p ≡ some (entries major minor body)
+is-ids (list-refused e) h = let z : _≡_ {A = ℕ} 0 1 = cc in absurd (omega arith)
+is-ids {body} {p} (is-selected {p = i} e f) h = let y : i ≡ p = cc in rw (← y) f
+
+entries-of : (body : Bytes) (ids : ℕ) {xs : List Bytes} → idsAt body ids ≡ some xs → entriesAt body ids ≡ xs
+unfolding entriesAt
+entries-of body ids e = rw e
+
+module _ (appid : Bytes) (major minor : ℕ) (body table : Bytes) {b : Bool} (bad : b ≡ isBadAppId appid) where
+  pub prepare-bad : b ≡ true → Prepares appid major minor body table (Refused BadAppId)
+  prepare-bad h = is-refused (go (sym bad ∙ h))
+    where
+      go : isBadAppId appid ≡ true → cleanRefusal appid major minor body table ≡ some BadAppId
+      go e = unfold cleanRefusal in (rw e)
+
+  module _ (h : b ≡ false) {u : Bool} (https : u ≡ beginsHttps appid) where
+    pub prepare-foreign : u ≡ false → Prepares appid major minor body table (Refused ForeignAppId)
+    prepare-foreign k = is-refused (go (sym bad ∙ h) (sym https ∙ k))
+      where
+        go : isBadAppId appid ≡ false → beginsHttps appid ≡ false → cleanRefusal appid major minor body table ≡ some ForeignAppId
+        go e f = unfold cleanRefusal in (rw (e, f))
+
+    module _ (k : u ≡ true) {q : Selection} (A : Answers major minor body q) where
+      from-list : cleanRefusal appid major minor body table ≡ (listRefusal major minor body orElse (BadTable when isNone (readTable table)))
+      from-list = go (sym bad ∙ h) (sym https ∙ k)
+        where
+          go : isBadAppId appid ≡ false → beginsHttps appid ≡ true → cleanRefusal appid major minor body table ≡ (listRefusal major minor body orElse (BadTable when isNone (readTable table)))
+          go e f = unfold cleanRefusal in (rw (e, f))
+
+      pub prepare-list : {x : Refusal} → q ≡ ListRefused x → Prepares appid major minor body table (Refused x)
+      prepare-list {x} l = is-refused {x = x} (from-list ∙ rw (is-list-refused A l))
+
+      module _ {p : ℕ} (l : q ≡ Ids p) {w : AppOwner} (O : OwnedBy appid table w) where
+        pub prepare-table : w ≡ NoTable → Prepares appid major minor body table (Refused BadTable)
+        prepare-table m = is-refused {x = BadTable} (from-list ∙ rw (is-accepted A l, no-table O m))
+
+        pub prepare-listed : {i j : ℕ} {d : Bool} → w ≡ Label i j d → Prepares appid major minor body table (Listed i j d p)
+        prepare-listed m = is-listed (record {
+          none-fits = from-list ∙ rw (is-accepted A l, some-table O m);
+          short = accepted-selects major minor body (is-accepted A l) .short;
+          owned = ids-owned [] appid table [] O m;
+          there = record { all = entries major minor body; is = is-ids A l };
+          is = entries-of body p (is-ids A l);
+        })
+
+-- ---- what the callers take from it
+
+pub refusal-accepts : (appid : Bytes) (major minor : ℕ) (body table : Bytes) → cleanRefusal appid major minor body table ≡ none → listRefusal major minor body ≡ none
+unfolding cleanRefusal
+refusal-accepts appid major minor body table e = go (isBadAppId appid) (beginsHttps appid) (listRefusal major minor body) e
+  where
+    go : (a b : Bool) (o : Option Refusal) → ((BadAppId when a) orElse (ForeignAppId when not b) orElse o orElse (BadTable when isNone (readTable table))) ≡ none → o ≡ none
+    go true b o e = let z : _≡_ {A = ℕ} 0 1 = cc in absurd (omega arith)
+    go false false o e = let z : _≡_ {A = ℕ} 0 1 = cc in absurd (omega arith)
+    go false true none e = refl
+    go false true (some x) e = let z : _≡_ {A = ℕ} 0 1 = cc in absurd (omega arith)
+
+module _ {appid : Bytes} {major minor : ℕ} {body table : Bytes} {w : Ready} (P : Prepares appid major minor body table w) where
+  pub prepared-refusal : {x : Refusal} → w ≡ Refused x → cleanRefusal appid major minor body table ≡ some x
+  prepared-refusal h = go P h
+    where
+      go : {w : Ready} {x : Refusal} → Prepares appid major minor body table w → w ≡ Refused x → cleanRefusal appid major minor body table ≡ some x
+      go (is-refused e) h = e ∙ ap some cc
+      go (is-listed L) h = let z : _≡_ {A = ℕ} 0 1 = cc in absurd (omega arith)
+
+  pub prepared-listed : {i j : ℕ} {d : Bool} {p : ℕ} → w ≡ Listed i j d p → ListedAt appid major minor body table i j d p
+  prepared-listed h = go P h
+    where
+      go : {w : Ready} {i j : ℕ} {d : Bool} {p : ℕ} → Prepares appid major minor body table w → w ≡ Listed i j d p → ListedAt appid major minor body table i j d p
+      go (is-refused e) h = let z : _≡_ {A = ℕ} 0 1 = cc in absurd (omega arith)
+      go {i} {j} {d} {p} (is-listed {start} {end} {deeper} {ids} L) h =
+          let x : start ≡ i = cc in
+          let y : end ≡ j = cc in
+          let z : deeper ≡ d = cc in
+          let t : ids ≡ p = cc in
+          rw (← x, ← y, ← z, ← t) L
