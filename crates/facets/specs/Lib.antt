@@ -1,3 +1,4 @@
 pub mod Promises
 pub mod Located
 pub mod Cleanings
+pub mod TallyFields

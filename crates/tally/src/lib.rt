@@ -1,5 +1,6 @@
 // The tally: how many entries are kept, and how many are discarded for each cause.
 use causes::Verdict;
+use cleaning::Ready;
 use json_text::Next;
 use refusals::Refusal;
 ghost use mathlib.Core.Path.{_≡_};
@@ -7,8 +8,8 @@ ghost use Prim.Native.Nat.{_≤_};
 ghost use lib.ListN.{length};
 ghost use Rattle.causes.specs.Owner.{causeOf};
 ghost use Rattle.decision.specs.Meaning.{Owned, IdsThere, entriesAt};
-ghost use Rattle.tally.specs.Tally.{counts};
-ghost use Rattle.tally.specs.Meaning.{countsOf, one, plus, Under, JudgedIs};
+ghost use Rattle.tally.specs.Tally.{counts, tally};
+ghost use Rattle.tally.specs.Meaning.{countsOf, tallyOf, one, plus, Under, JudgedIs};
 
 // Kept entries and each of the four causes.
 pub struct Counts {
@@ -109,6 +110,19 @@ fn count_ids(
                 };
                 at = next;
             }
+        }
+    }
+}
+
+// Refusals as of cleaning, but for 15; or the counts.
+pub fn tally(appid: &[u8], major: u16, minor: u16, body: &[u8], table: &[u8]) -> Tallied
+    ensures { λ r. ⌜ tallyOf r ≡ tally (now (appid .entry)) major minor (now (body .entry)) (now (table .entry)) ⌝ }
+{
+    match cleaning::prepare(appid, major, minor, body, table) {
+        Ready::Refused(x) => Tallied::Refused(x),
+        Ready::Listed(start, end, deeper, ids) => {
+            let c = count_ids(appid, start, end, deeper, body, ids, table);
+            Tallied::Counted(c)
         }
     }
 }
