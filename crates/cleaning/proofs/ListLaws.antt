@@ -177,10 +177,16 @@ module _ (appid : Bytes) (major minor : ℕ) (body table before : Bytes) {w : Re
       go : cleanRefusal appid major minor body table ≡ none → clean appid major minor body table before ≡ fitting (length before) (cleanedList appid major minor body table)
       go e = unfold clean orClean in (rw e)
 
--- what is written has at most 65,536 bytes, as the body has
-pub cleaned-small : (appid : Bytes) (major minor : ℕ) (body table before list : Bytes) → clean appid major minor body table before ≡ cleaned list → length list ≤ 65536
+-- ---- a list that was written
+
+pub record Taken (appid : Bytes) (major minor : ℕ) (body table list : Bytes) : Type 0 where
+  pub none-fits : cleanRefusal appid major minor body table ≡ none
+  pub accepted : Accepted major minor body
+  pub is : cleanedList appid major minor body table ≡ list
+
+pub taken : (appid : Bytes) (major minor : ℕ) (body table before list : Bytes) → clean appid major minor body table before ≡ cleaned list → Taken appid major minor body table list
 unfolding clean
-cleaned-small appid major minor body table before list e = go (cleanRefusal appid major minor body table) refl e
+taken appid major minor body table before list e = go (cleanRefusal appid major minor body table) refl e
   where
     fitted : (t : Bool) (l : Bytes) → (if t then notCleaned Full else cleaned l) ≡ cleaned list → l ≡ list
     fitted true l e = let z : _≡_ {A = ℕ} 0 1 = cc in absurd (omega arith)
@@ -189,9 +195,13 @@ cleaned-small appid major minor body table before list e = go (cleanRefusal appi
     is-list : fitting (length before) (cleanedList appid major minor body table) ≡ cleaned list → cleanedList appid major minor body table ≡ list
     is-list e = fitted (ltb (length before) (length (cleanedList appid major minor body table))) (cleanedList appid major minor body table) (unfold fitting in e)
 
-    go : (o : Option Refusal) → cleanRefusal appid major minor body table ≡ o → orClean o (fitting (length before) (cleanedList appid major minor body table)) ≡ cleaned list → length list ≤ 65536
+    go : (o : Option Refusal) → cleanRefusal appid major minor body table ≡ o → orClean o (fitting (length before) (cleanedList appid major minor body table)) ≡ cleaned list → Taken appid major minor body table list
     go (some x) f e = let y : notCleaned x ≡ cleaned list = unfold orClean in e in let z : _≡_ {A = ℕ} 0 1 = cc in absurd (omega arith)
-    go none f e =
-        let y : fitting (length before) (cleanedList appid major minor body table) ≡ cleaned list = unfold orClean in e in
-        let S = accepted-selects major minor body (refusal-accepts appid major minor body table f) in
-        omega (arith, ap length (is-list y), clean-length appid table major minor body (S .ids) (S .is), S .short)
+    go none f e = record { none-fits = f; accepted = refusal-accepts appid major minor body table f; is = is-list (unfold orClean in e) }
+
+-- it has at most 65,536 bytes, as the body has
+pub cleaned-small : (appid : Bytes) (major minor : ℕ) (body table before list : Bytes) → clean appid major minor body table before ≡ cleaned list → length list ≤ 65536
+cleaned-small appid major minor body table before list e =
+    let T = taken appid major minor body table before list e in
+    let S = accepted-selects major minor body (T .accepted) in
+    omega (arith, ap length (T .is), clean-length appid table major minor body (S .ids) (S .is), S .short)

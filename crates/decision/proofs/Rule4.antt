@@ -18,6 +18,7 @@ use Rattle.trusted_list.specs.TrustedList.{entries}
 use Rattle.fetch_record.specs.Fetching.{Fetching, refused as hopRefused, fetch as mustFetch, answered, fetching}
 use Rattle.causes.specs.Causes.{appLabel, labelsAgree, isOtherLabel, kept}
 use Rattle.causes.proofs.KeptTests.{isKept, kept-passes, kept-each}
+use Rattle.decision.specs.SameLabel.{SameLabel}
 use Rattle.decision.specs.Answer.{rule1, rule2, rule3, rule4, fetch, refused}
 use Rattle.decision.specs.Decide.{isBadAppId, Stage, settled, listDue, byFetch, beforeList, firstMatch, lateRefusal, byPlace, unless, byList, decide}
 
@@ -72,14 +73,6 @@ first-found caller p (e ∷ l) n h q = let k = and-eq-true-iff (p e) (all p l) .
     go k false m (some j) r w ih = ih j r
 
 -- ---- labels
-
--- both labels exist, and they are equal without regard to ASCII case
-pub record SameLabel (table appid host : Bytes) : Type 0 where
-  pub label : Bytes
-  pub app-label : Bytes
-  pub exists : privateLabel table host ≡ some label
-  pub app-exists : appLabel table appid ≡ some app-label
-  pub equal : sameNoCase label app-label ≡ true
 
 agree-same : (table appid host : Bytes) → labelsAgree (privateLabel table host) (appLabel table appid) ≡ true → SameLabel table appid host
 unfolding labelsAgree

@@ -3,3 +3,4 @@ pub mod Decide
 pub mod Location
 pub mod Meaning
 pub mod SameKept
+pub mod SameLabel

@@ -2,3 +2,4 @@ pub mod Promises
 pub mod Located
 pub mod Cleanings
 pub mod TallyFields
+pub mod Demands

@@ -1,0 +1,50 @@
+-- Demands 2 and 3 as claims about document 01's definitions, each said once. A reviewer can open this file first; proofs/Demands.antt
+-- proves every claim. The exports (src/lib.rt) promise that they answer as these definitions.
+use mathlib.Core.Path.{_≡_}
+use mathlib.Core.Option.{some}
+use Prim.Native.Nat.{ℕ}
+use Rattle.ascii.specs.Ascii.{Bytes}
+use Rattle.origin.specs.Origin.{Authority, webOrigin}
+use Rattle.decision.specs.Answer.{rule4}
+use Rattle.decision.specs.Decide.{decide}
+use Rattle.decision.specs.SameKept.{SameKept}
+use Rattle.decision.specs.SameLabel.{SameLabel}
+use Rattle.cleaning.specs.Clean.{cleaned, clean, cleanedLength, outputAfter}
+use Rattle.facets.specs.Cleanings.{cleanNumber}
+
+-- ---- demand 3: two whole bodies
+
+-- all other inputs equal, two bodies are answered alike
+pub record SameAnswers (appid table : Bytes) (major minor : ℕ) (body₁ body₂ : Bytes) : Type 0 where
+  -- the whole answer for every caller, whatever the record and the text: rule and place, fetch, or refusal
+  pub answer : (caller items lent : Bytes) → decide caller appid major minor items lent body₁ table ≡ decide caller appid major minor items lent body₂ table
+  -- of cleaning, whatever the output's length and bytes before the call: the refusal,
+  pub refusal : (before : Bytes) → cleanNumber (clean appid major minor body₁ table before) ≡ cleanNumber (clean appid major minor body₂ table before)
+  -- the length,
+  pub len : (before : Bytes) → cleanedLength (clean appid major minor body₁ table before) ≡ cleanedLength (clean appid major minor body₂ table before)
+  -- and every byte of the output afterwards
+  pub output : (before : Bytes) → outputAfter before (clean appid major minor body₁ table before) ≡ outputAfter before (clean appid major minor body₂ table before)
+
+-- both bodies are accepted and have the same kept entries; their discarded entries, and whatever else they hold, may be any
+abbrev pub Padding : Type 0
+Padding = (appid table : Bytes) (major minor : ℕ) (body₁ body₂ : Bytes) → SameKept appid table major minor body₁ body₂ → SameAnswers appid table major minor body₁ body₂
+
+-- whatever the inputs: no web caller is allowed by rule 4 unless its host's private label exists and is the AppID's
+abbrev pub Owners : Type 0
+Owners =
+    (caller appid : Bytes) (major minor : ℕ) (items lent body table : Bytes) (origin : Authority) (place : ℕ)
+    → webOrigin caller ≡ some origin → decide caller appid major minor items lent body table ≡ rule4 place → SameLabel table appid (origin .host)
+
+-- ---- demand 2: the cleaned list
+
+-- read again with all other inputs equal, it gives every caller the same decision, whatever the record and the text
+abbrev pub Rereading : Type 0
+Rereading =
+    (appid : Bytes) (major minor : ℕ) (body table before list : Bytes) → clean appid major minor body table before ≡ cleaned list
+    → (caller items lent : Bytes) → decide caller appid major minor items lent list table ≡ decide caller appid major minor items lent body table
+
+-- cleaned again into an output of any bytes, it gives what the body gives: the same list, or refusal 15
+abbrev pub Recleaning : Type 0
+Recleaning =
+    (appid : Bytes) (major minor : ℕ) (body table before list : Bytes) → clean appid major minor body table before ≡ cleaned list
+    → (other : Bytes) → clean appid major minor list table other ≡ clean appid major minor body table other
