@@ -1,5 +1,4 @@
 pub mod Padding
-pub mod TallyTotal
 pub mod CleanLength
 pub mod RenderReads
 pub mod Rereading

@@ -1,3 +1,2 @@
 pub mod Clean
-pub mod Tally
 pub mod Meaning

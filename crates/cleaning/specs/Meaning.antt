@@ -1,4 +1,4 @@
--- What the code of cleaning and tally answers, in the terms of Clean and Tally.
+-- What the code of cleaning answers, in the terms of Clean.
 use mathlib.Core.Path.{_≡_}
 use mathlib.Core.Bool.{Bool, true, false}
 use mathlib.Core.List.{List, [], _∷_, _++_, map}

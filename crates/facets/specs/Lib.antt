@@ -1,4 +1,5 @@
 pub mod Promises
 pub mod Located
 pub mod Cleanings
+pub mod TallyFields
 pub mod Demands

@@ -10,8 +10,8 @@ use Rattle.ascii.specs.Ascii.{Bytes, if_then_else_, filterBy}
 use Rattle.refusals.specs.declared.Refusal.{Refusal}
 use Rattle.trusted_list.specs.TrustedList.{entries}
 use Rattle.causes.specs.Causes.{Cause, tooLong, otherScheme, notFacet, otherLabel, cause}
 use Rattle.cleaning.specs.Clean.{cleanRefusal}
-use Rattle.cleaning.specs.Tally.{causeNumber, Counts, countOf, counts, tallied, orTally, tally}
+use Rattle.tally.specs.Tally.{causeNumber, Counts, countOf, counts, tallied, orTally, tally}
 
 abbrev pub total : Counts → ℕ
 total c = c .kept + c .tooLong + c .otherScheme + c .notFacet + c .otherLabel

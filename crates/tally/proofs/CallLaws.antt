@@ -1,0 +1,41 @@
+-- The whole tally: a refusal, or the counts of the selected entries.
+use mathlib.Core.Path.{_≡_, sym, ap, _∙_}
+use mathlib.Core.Bool.{Bool}
+use mathlib.Core.Option.{Option, none, some}
+use Prim.Native.Nat.{ℕ, _≤_}
+use lib.ListN.{length}
+use Rattle.ascii.specs.Ascii.{Bytes}
+use Rattle.refusals.specs.declared.Refusal.{Refusal}
+use Rattle.trusted_list.specs.TrustedList.{entries}
+use Rattle.decision.specs.Meaning.{Owned, IdsThere, entriesAt}
+use Rattle.cleaning.specs.Clean.{cleanRefusal}
+use Rattle.cleaning.specs.Meaning.{ListedAt, Prepares}
+use Rattle.cleaning.specs.declared.Ready.{Ready}
+use Rattle.cleaning.specs.declared.Ready.the-variants.{Refused as NotReady, Listed}
+use Rattle.cleaning.proofs.PrepareLaws.{prepared-refusal, prepared-listed}
+use Rattle.tally.specs.Tally.{Counts, counts, orTally, tally}
+use Rattle.tally.specs.Meaning.{countsOf, tallyOf}
+use Rattle.tally.specs.declared.Counts.{Counts as Held}
+use Rattle.tally.specs.declared.Tallied.the-variants.{Refused, Counted}
+
+module _ {appid : Bytes} {major minor : ℕ} {body table : Bytes} {w : Ready} (P : Prepares appid major minor body table w) where
+  pub tally-refused : {x : Refusal} → w ≡ NotReady x → tallyOf (Refused x) ≡ tally appid major minor body table
+  unfolding tallyOf tally orTally
+  tally-refused h = rw (prepared-refusal P h)
+
+  module _ {start end : ℕ} {deeper : Bool} {ids : ℕ} (h : w ≡ Listed start end deeper ids) where
+    L : ListedAt appid major minor body table start end deeper ids
+    L = prepared-listed P h
+
+    pub tally-owned : Owned appid table start end deeper
+    tally-owned = L .owned
+
+    pub tally-there : IdsThere body ids
+    tally-there = L .there
+
+    pub tally-short : length body ≤ 65536
+    tally-short = L .short
+
+    pub tally-counted : (c : Held) → countsOf c ≡ counts appid table (entriesAt body ids) → tallyOf (Counted c) ≡ tally appid major minor body table
+    unfolding tallyOf tally orTally
+    tally-counted c e = rw (L .none-fits, e, L .is)

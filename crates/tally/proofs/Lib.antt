@@ -1,0 +1,4 @@
+pub mod TallyTotal
+pub mod CountLaws
+pub mod CallLaws
+pub mod Laws

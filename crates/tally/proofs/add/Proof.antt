@@ -1,0 +1,39 @@
+-- `tally::add` meets its contract.
+use Rattle.tally.proofs.Laws.{laws}
+use Rattle.tally.proofs.add.Statement.{statement}
+use Rattle.tally.proofs.add.Tie as tie
+
+pub add-spec : {M : Type 1} → statement M
+add-spec =
+    tie.close
+    (tie.spec
+    {- enum-told -}
+    (λ c. search laws)
+    {- add-r -}
+    (λ c. search laws)
+    {- returns -}
+    (λ c. search laws)
+    {- enum-told-2 -}
+    (λ c. search laws)
+    {- add-r-2 -}
+    (λ c. search laws)
+    {- returns-2 -}
+    (λ c. search laws)
+    {- enum-told-3 -}
+    (λ c. search laws)
+    {- add-r-3 -}
+    (λ c. search laws)
+    {- returns-3 -}
+    (λ c. search laws)
+    {- enum-told-4 -}
+    (λ c. search laws)
+    {- add-r-4 -}
+    (λ c. search laws)
+    {- returns-4 -}
+    (λ c. search laws)
+    {- enum-told-5 -}
+    (λ c. search laws)
+    {- add-r-5 -}
+    (λ c. search laws)
+    {- returns-5 -}
+    (λ c. search laws))
