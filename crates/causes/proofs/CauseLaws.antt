@@ -121,7 +121,7 @@ fit-none e h = go (leb (length e) 512) refl h
     go true f h = let z : _≡_ {A = ℕ} 0 1 = cc in absurd (omega arith)
     go false f h = leb-false (length e) 512 f
 
-fit-some : (e : Bytes) {t : Bytes} → some t ≡ fit e → t ≡ e
+pub fit-some : (e : Bytes) {t : Bytes} → some t ≡ fit e → t ≡ e
 unfolding fit
 fit-some e {t} h = go (leb (length e) 512) h
   where

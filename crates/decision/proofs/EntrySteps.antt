@@ -19,6 +19,7 @@ use Rattle.json_text.specs.declared.Next.{Next}
 use Rattle.json_text.specs.declared.Next.the-variants.{At, Bad}
 use Rattle.json_text.specs.declared.Decoded.{Decoded}
 use Rattle.json_text.specs.declared.Text.{Text}
+use Rattle.json_text.proofs.Holding.{content-short}
 use Rattle.json_text.proofs.Steps.{peek-in, one-yes, one-no, no-fall, is-one, not-one, found}
 use Rattle.trusted_list.specs.Slots.{idsAt}
 use Rattle.trusted_list.specs.Entries.{toNext, firstEntry, nextEntry, Coming, over, comes}
@@ -26,10 +27,11 @@ use Rattle.trusted_list.proofs.MemberLaws.{Bound, bound}
 use Rattle.trusted_list.proofs.EntryLaws.{entries-come}
 use Rattle.causes.specs.Causes.{Cause, tooLong, otherScheme, notFacet, otherLabel, cause, kept}
 use Rattle.causes.specs.Owner.{Owns, JudgesHeld, causeOf}
+use Rattle.causes.proofs.CauseLaws.{fit-some, held-long, held-over}
 use Rattle.causes.specs.declared.Verdict.{Verdict}
 use Rattle.causes.specs.declared.Verdict.the-variants.{Kept, TooLong, OtherScheme, NotFacet, OtherLabel}
 use Rattle.decision.specs.Decide.{firstMatch}
-use Rattle.decision.specs.Meaning.{MatchesHeld, Owned, IdsThere, entriesAt, matchOf, Passes, matches-it, is-kept, is-dropped, StepIs}
+use Rattle.decision.specs.Meaning.{Owned, IdsThere, entriesAt, matchOf, Passes, matches-it, is-kept, is-dropped, PartIs, StepIs}
 use Rattle.decision.specs.declared.Match.{Match}
 use Rattle.decision.specs.declared.Match.the-variants.{At as MatchAt, Nowhere}
 use Rattle.decision.specs.declared.Step.{Step}
@@ -41,39 +43,6 @@ pub fit-is : (e : Bytes) → length e ≤ 512 → fit e ≡ some e
 unfolding fit
 fit-is e l = rw (le-leb (length e) 512 l)
 
-module _ (caller : Bytes) (d : Decoded) where
-  none-held : content d ≡ none → MatchesHeld caller (content d) false
-  none-held c = record { is = λ e l h. let x : none ≡ some e = sym c ∙ h ∙ fit-is e l in let z : _≡_ {A = ℕ} 0 1 = cc in absurd (omega arith) }
-
-  pub held-no : d .long ≡ true → MatchesHeld caller (content d) false
-  held-no h = none-held (go h)
-    where
-      go : d .long ≡ true → content d ≡ none
-      go h = unfold content in (rw h)
-
-  module _ (h : d .long ≡ false) where
-    pub held-over : 512 < d .len → MatchesHeld caller (content d) false
-    held-over k = none-held (go h k)
-      where
-        go : d .long ≡ false → 512 < d .len → content d ≡ none
-        go h k = unfold content in (rw (h, lt-ltb 512 (d .len) k))
-
-    module _ (k : d .len ≤ 512) where
-      pub held-part : length (d .bytes) ≡ 512 → d .len ≤ length (d .bytes)
-      held-part w = omega arith
-
-      pub held-matches : {r : Bool} → r ≡ facetMatches caller (take (d .len - 0) (drop 0 (d .bytes))) → MatchesHeld caller (content d) r
-      held-matches e = record { is = λ x l f. e ∙ ap (facetMatches caller) (zero-part ∙ is-entry x (sym (is-content h k) ∙ f ∙ fit-is x l)) }
-        where
-          zero-part : take (d .len - 0) (drop 0 (d .bytes)) ≡ take (d .len) (d .bytes)
-          zero-part = let z : d .len - 0 ≡ d .len = omega arith in rw z
-
-          is-content : d .long ≡ false → d .len ≤ 512 → content d ≡ some (take (d .len) (d .bytes))
-          is-content h k = unfold content in (rw (h, le-ltb 512 (d .len) k))
-
-          is-entry : (x : Bytes) → some (take (d .len) (d .bytes)) ≡ some x → take (d .len) (d .bytes) ≡ x
-          is-entry x f = cc
-
 -- ---- one entry
 
 pub kept-short : (appid table e : Bytes) → none ≡ cause appid table e → length e ≤ 512
@@ -83,6 +52,10 @@ kept-short appid table e h = go (ltb 512 (length e)) refl _ h
     go : (u : Bool) → ltb 512 (length e) ≡ u → (o : Option Cause) → none ≡ (if u then some tooLong else o) → length e ≤ 512
     go true f o h = let z : _≡_ {A = ℕ} 0 1 = cc in absurd (omega arith)
     go false f o h = ltb-false 512 (length e) f
+
+too-long : (appid table e : Bytes) → causeOf TooLong ≡ cause appid table e → isNone (cause appid table e) ≡ false
+unfolding causeOf
+too-long appid table e h = ap isNone (sym h)
 
 module _ (caller table label : Bytes) (deeper : Bool) (s : Bytes) (at : ℕ) {t : Text} (H : Holds (contentOf (readAt readString s at)) (placeOf (readAt readString s at)) t) where
   pub step-wrong : t .end ≡ Bad → StepIs caller table label deeper s at Wrong
@@ -102,42 +75,23 @@ module _ (caller table label : Bytes) (deeper : Bool) (s : Bytes) (at : ℕ) {t 
       pub kept-is : v ≡ Kept → (appid e : Bytes) (k : ℕ) → Owns appid table label deeper → readAt readString s at ≡ got e k → none ≡ cause appid table e
       kept-is h appid e k O f = unfold causeOf in (let x : causeOf v ≡ cause appid table e = J .is appid e O (held-is e k f) in rw h at x)
 
-      module _ (h : v ≡ Kept) {m : Bool} (M : MatchesHeld caller (content (t .decoded)) m) where
-        match-is : (appid e : Bytes) (k : ℕ) → Owns appid table label deeper → readAt readString s at ≡ got e k → m ≡ facetMatches caller e
-        match-is appid e k O f = M .is e (kept-short appid table e (kept-is h appid e k O f)) (held-is e k f)
+    module _ (h : t .decoded .long ≡ false) (l : t .decoded .len ≤ 512) where
+      pub held-part : length (t .decoded .bytes) ≡ 512 → t .decoded .len ≤ length (t .decoded .bytes)
+      held-part w = omega arith
 
-        pub step-matched : m ≡ true → StepIs caller table label deeper s at Matched
-        step-matched g = record { is = λ appid e k O f. matches-it (ap isNone (sym (kept-is h appid e k O f))) (sym (match-is appid e k O f) ∙ g) }
-
-        pub step-kept : m ≡ false → StepIs caller table label deeper s at (Goes j 1)
-        step-kept g = record { is = λ appid e k O f. rw (end-is e k f) (is-kept (ap isNone (sym (kept-is h appid e k O f))) (sym (match-is appid e k O f) ∙ g)) }
-
-      dropped : {c : Cause} → causeOf v ≡ some c → StepIs caller table label deeper s at (Goes j 0)
-      dropped g = record { is = λ appid e k O f. rw (end-is e k f) (is-dropped (ap isNone (sym (J .is appid e O (held-is e k f)) ∙ g))) }
-
-      pub step-long : v ≡ TooLong → StepIs caller table label deeper s at (Goes j 0)
-      step-long h = dropped (go h)
+      pub step-held : {r : Step} → PartIs caller table label deeper (take (t .decoded .len - 0) (drop 0 (t .decoded .bytes))) j r → StepIs caller table label deeper s at r
+      step-held {r} P = record { is = λ appid e k O f. rw (end-is e k f, part-is e k f) at (P .is appid O) }
         where
-          go : v ≡ TooLong → causeOf v ≡ some tooLong
-          go h = unfold causeOf in (rw h)
+          part-is : (e : Bytes) (k : ℕ) → readAt readString s at ≡ got e k → take (t .decoded .len - 0) (drop 0 (t .decoded .bytes)) ≡ e
+          part-is e k f =
+              let z : t .decoded .len - 0 ≡ t .decoded .len = omega arith in
+              ap (λ (n : ℕ). take n (t .decoded .bytes)) z ∙ fit-some e (sym (content-short (t .decoded) h l) ∙ held-is e k f)
 
-      pub step-scheme : v ≡ OtherScheme → StepIs caller table label deeper s at (Goes j 0)
-      step-scheme h = dropped (go h)
-        where
-          go : v ≡ OtherScheme → causeOf v ≡ some otherScheme
-          go h = unfold causeOf in (rw h)
+    pub step-long : t .decoded .long ≡ true → StepIs caller table label deeper s at (Goes j 0)
+    step-long h = record { is = λ appid e k O f. rw (end-is e k f) (is-dropped (too-long appid table e (held-long table label deeper (t .decoded) h .is appid e O (held-is e k f)))) }
 
-      pub step-facet : v ≡ NotFacet → StepIs caller table label deeper s at (Goes j 0)
-      step-facet h = dropped (go h)
-        where
-          go : v ≡ NotFacet → causeOf v ≡ some notFacet
-          go h = unfold causeOf in (rw h)
-
-      pub step-label : v ≡ OtherLabel → StepIs caller table label deeper s at (Goes j 0)
-      step-label h = dropped (go h)
-        where
-          go : v ≡ OtherLabel → causeOf v ≡ some otherLabel
-          go h = unfold causeOf in (rw h)
+    pub step-over : t .decoded .long ≡ false → 512 < t .decoded .len → StepIs caller table label deeper s at (Goes j 0)
+    step-over h l = record { is = λ appid e k O f. rw (end-is e k f) (is-dropped (too-long appid table e (held-over table label deeper (t .decoded) h l .is appid e O (held-is e k f)))) }
 
 -- ---- the loop
 

@@ -1,5 +1,6 @@
 pub mod StageLaws
 pub mod EntrySteps
+pub mod PlainEntry
 pub mod ListLaws
 pub mod Laws
 pub mod Padding

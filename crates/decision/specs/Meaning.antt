@@ -11,7 +11,7 @@ use Rattle.origin.specs.Matching.{facetMatches}
 use Rattle.origin.specs.Parts.{part}
 use Rattle.json_text.specs.Reader.{got}
 use Rattle.json_text.specs.Lexical.{readString}
-use Rattle.json_text.specs.Places.{readAt, fit}
+use Rattle.json_text.specs.Places.{readAt}
 use Rattle.refusals.specs.declared.Refusal.{Refusal}
 use Rattle.refusals.specs.declared.Refusal.the-variants.{BadTable}
 use Rattle.trusted_list.specs.Slots.{idsAt}
@@ -61,10 +61,6 @@ unfoldable pub matchOf : Match → Option ℕ
 matchOf Nowhere = none
 matchOf (MatchAt n) = some n
 
--- an entry of which at most 512 bytes are held matches the caller
-pub record MatchesHeld (caller : Bytes) (held : Option Bytes) (r : Bool) : Type 0 where
-  pub is : (entry : Bytes) → length entry ≤ 512 → held ≡ fit entry → r ≡ facetMatches caller entry
-
 -- the AppID's label stands in it between two places
 pub record Owned (appid table : Bytes) (start end : ℕ) (deeper : Bool) : Type 0 where
   pub low : start ≤ end
@@ -77,6 +73,11 @@ pub data Passes (caller appid table entry : Bytes) (end : ℕ) : Step → Type 0
   is-kept : isNone (cause appid table entry) ≡ true → facetMatches caller entry ≡ false → Passes caller appid table entry end (Goes end 1)
   is-dropped : isNone (cause appid table entry) ≡ false → Passes caller appid table entry end (Goes end 0)
 
+-- the entry itself, for every AppID with this label
+pub record PartIs (caller table label : Bytes) (deeper : Bool) (entry : Bytes) (end : ℕ) (r : Step) : Type 0 where
+  pub is : (appid : Bytes) → Owns appid table label deeper → Passes caller appid table entry end r
+
+-- the entry at a place
 pub record StepIs (caller table label : Bytes) (deeper : Bool) (body : Bytes) (at : ℕ) (r : Step) : Type 0 where
   pub is : (appid entry : Bytes) (end : ℕ) → Owns appid table label deeper → readAt readString body at ≡ got entry end → Passes caller appid table entry end r
 

@@ -3,16 +3,14 @@ use causes::AppOwner;
 use causes::Verdict;
 use fetch_record::Outcome;
 use fetch_record::Target;
-use json_text::Decoded;
 use json_text::Next;
 use refusals::Refusal;
 use trusted_list::Selection;
 ghost use mathlib.Core.Path.{_≡_};
 ghost use Rattle.decision.specs.Decide.{isBadAppId, byFetch, beforeList, firstMatch, byPlace, byList, decide, listDue};
 ghost use Rattle.decision.specs.Location.{fetchFrom, fetchLocation, sourceFrom, fetchSource};
-ghost use Rattle.decision.specs.Meaning.{answerOf, stageOf, IdsThere, entriesAt, matchOf, MatchesHeld, StepIs, Owned, byEntries, Locates};
+ghost use Rattle.decision.specs.Meaning.{answerOf, stageOf, IdsThere, entriesAt, matchOf, PartIs, StepIs, Owned, byEntries, Locates};
 ghost use Rattle.fetch_record.specs.Meaning.{outcomeOf, answerOf as responseOf, lastHop};
-ghost use Rattle.json_text.specs.Places.{content};
 ghost use Rattle.causes.specs.Causes.{kept};
 
 pub enum Answer {
@@ -98,22 +96,33 @@ pub enum Step {
     Wrong,
 }
 
-// A decoded entry matches the caller.
-fn matches_held(caller: &[u8], d: Decoded) -> bool
-    ensures { λ r. ⌜ MatchesHeld (now (caller .entry)) (content d) r ⌝ }
+// One entry that ends before a place.
+fn match_part(
+    caller: &[u8],
+    label: &[u8],
+    deeper: bool,
+    entry: &[u8],
+    end: usize,
+    table: &[u8],
+) -> Step
+    ensures { λ r. ⌜ PartIs (now (caller .entry)) (now (table .entry)) (now (label .entry)) deeper (now (entry .entry)) end r ⌝ }
 {
-    if d.long {
-        return false;
+    match causes::judge(entry, label, deeper, table) {
+        Verdict::Kept => {
+            if origin::matches(caller, entry) {
+                return Step::Matched;
+            }
+            Step::Goes(end, 1)
+        }
+        Verdict::TooLong => Step::Goes(end, 0),
+        Verdict::OtherScheme => Step::Goes(end, 0),
+        Verdict::NotFacet => Step::Goes(end, 0),
+        Verdict::OtherLabel => Step::Goes(end, 0),
     }
-    let n = d.len;
-    if 512 < n {
-        return false;
-    }
-    let bytes = d.bytes;
-    origin::matches(caller, &bytes[0..n])
 }
 
-fn match_entry(
+// An entry that may have escapes, decoded first.
+fn match_escaped(
     caller: &[u8],
     label: &[u8],
     deeper: bool,
@@ -129,18 +138,33 @@ fn match_entry(
         return Step::Wrong;
     };
     let d = t.decoded;
-    match causes::judge_decoded(d, label, deeper, table) {
-        Verdict::Kept => {
-            if matches_held(caller, d) {
-                return Step::Matched;
-            }
-            Step::Goes(j, 1)
-        }
-        Verdict::TooLong => Step::Goes(j, 0),
-        Verdict::OtherScheme => Step::Goes(j, 0),
-        Verdict::NotFacet => Step::Goes(j, 0),
-        Verdict::OtherLabel => Step::Goes(j, 0),
+    if d.long {
+        return Step::Goes(j, 0);
     }
+    let n = d.len;
+    if 512 < n {
+        return Step::Goes(j, 0);
+    }
+    let bytes = d.bytes;
+    match_part(caller, label, deeper, &bytes[0..n], j, table)
+}
+
+// An entry without escapes is judged where it stands.
+fn match_entry(
+    caller: &[u8],
+    label: &[u8],
+    deeper: bool,
+    body: &[u8],
+    at: usize,
+    table: &[u8],
+) -> Step
+    ensures { λ r. ⌜ StepIs (now (caller .entry)) (now (table .entry)) (now (label .entry)) deeper (now (body .entry)) at r ⌝ }
+{
+    let Next::At(q) = json_text::strings::plain_end(body, at) else {
+        return match_escaped(caller, label, deeper, body, at, table);
+    };
+    let from = at + 1;
+    match_part(caller, label, deeper, &body[from..q], q + 1, table)
 }
 
 // The entries of the ids at a place, one by one; the AppID's label stands in it from start to end.

@@ -1,4 +1,4 @@
--- Decoding a string into an array by value.
+-- Decoding a string into a lent array.
 use mathlib.Core.Path.{_≡_, refl, ap, sym, _∙_}
 use mathlib.Core.Bool.{Bool, true, false, _&&_, _||_, not}
 use mathlib.Core.List.{List, [], _∷_, _++_, append-assoc, append-nil}
@@ -14,9 +14,11 @@ use Rattle.ascii.specs.Ascii.{Bytes, if_then_else_, same}
 use Rattle.json_text.specs.Reader.{Read, got, bad, Reader, more, mapped, asWritten, verbatim}
 use Rattle.json_text.specs.Utf8.{encodeUtf8}
 use Rattle.json_text.specs.Lexical.{unescaped, escaped, readChar, readChars, readString}
-use Rattle.json_text.specs.Places.{Peeked, readAt, placeOf, pointOf, fit, content, contentOf, push, pushRead, isText, Holds}
+use Rattle.json_text.specs.Places.{Peeked, readAt, placeOf, pointOf, fit, content, contentOf, push, pushRead, held, isText, Holds, Puts, PutsRead, is-on, is-stuck}
 use Rattle.json_text.specs.declared.Decoded.{Decoded}
 use Rattle.json_text.specs.declared.Text.{Text}
+use Rattle.json_text.specs.declared.Progress.{Progress}
+use Rattle.json_text.specs.declared.Progress.the-variants.{On, Stuck}
 use Rattle.json_text.specs.declared.Next.{Next}
 use Rattle.json_text.specs.declared.Next.the-variants.{At, Bad}
 use Rattle.json_text.specs.declared.Point.{Point}
@@ -65,72 +67,78 @@ push-push (some t) x y = go (leb (length (t ++ x)) 512) refl
 
 -- ---- one byte more
 
-module _ (d : Decoded) (b : ℕ) where
-  pub put-long : {r : Option Bytes} → d .long ≡ true → r ≡ none → r ≡ push (content d) (b ∷ [])
-  put-long {r} h e = let z : push (content d) (b ∷ []) ≡ none = unfold content push in rw h in e ∙ sym z
+module _ (bytes : Bytes) (n b : ℕ) where
+  pub put-full : 512 ≤ n → Puts bytes n (b ∷ []) bytes 513
+  put-full k = record { kept = refl; is = λ w. full w }
+    where
+      fits-not : (u : Bool) → length bytes ≡ 512 → ltb 512 n ≡ u → push (if u then none else some (take n bytes)) (b ∷ []) ≡ none
+      fits-not true w f = unfold push in refl
+      fits-not false w f =
+          let m : n ≤ 512 = ltb-false 512 n f in
+          unfold push in fit-not (take n bytes ++ b ∷ []) (omega (arith, length-append (take n bytes) (b ∷ []), length-take-le n bytes (omega arith)))
 
-  module _ (h : d .long ≡ false) (w : length (d .bytes) ≡ 512) where
-    pub put-full : {r : Option Bytes} → 512 ≤ d .len → r ≡ none → r ≡ push (content d) (b ∷ [])
-    unfolding content
-    put-full {r} k e = e ∙ sym (rw h (go (ltb 512 (d .len)) refl))
-      where
-        go : (u : Bool) → ltb 512 (d .len) ≡ u → push (if u then none else some (take (d .len) (d .bytes))) (b ∷ []) ≡ none
-        go true f = unfold push in refl
-        go false f =
-            let m : d .len ≤ 512 = ltb-false 512 (d .len) f in
-            unfold push in fit-not (take (d .len) (d .bytes) ++ b ∷ []) (omega (arith, length-append (take (d .len) (d .bytes)) (b ∷ []), length-take-le (d .len) (d .bytes) (omega arith)))
+      full : length bytes ≡ 512 → content (held bytes 513) ≡ push (content (held bytes n)) (b ∷ [])
+      full w = unfold content in sym (fits-not (ltb 512 n) w refl)
 
-    pub put-one : d .len < 512 → content (record { bytes = set (d .bytes) (d .len) b; len = d .len + 1; long = false }) ≡ push (content d) (b ∷ [])
-    unfolding content push
-    put-one k =
-        rw (h, le-ltb 512 (d .len + 1) (omega arith), le-ltb 512 (d .len) (omega arith), add-one (d .len), take-suc-set (d .bytes) (d .len) b (omega arith))
-        (sym (fit-is (take (d .len) (d .bytes) ++ b ∷ []) (omega (arith, length-append (take (d .len) (d .bytes)) (b ∷ []), length-take-le (d .len) (d .bytes) (omega arith)))))
+  pub put-one : n < 512 → Puts bytes n (b ∷ []) (set bytes n b) (n + 1)
+  put-one k = record { kept = length-set bytes n b; is = λ w. one w }
+    where
+      one : length bytes ≡ 512 → content (held (set bytes n b) (n + 1)) ≡ push (content (held bytes n)) (b ∷ [])
+      one w = unfold content push in
+          (rw (le-ltb 512 (n + 1) (omega arith), le-ltb 512 n (omega arith), add-one n, take-suc-set bytes n b (omega arith))
+          (sym (fit-is (take n bytes ++ b ∷ []) (omega (arith, length-append (take n bytes) (b ∷ []), length-take-le n bytes (omega arith))))))
+
+puts-none : (out : Bytes) (n : ℕ) → Puts out n [] out n
+puts-none out n = record { kept = refl; is = λ w. sym (push-nil (held out n)) }
+
+puts-then : {before x out y after : Bytes} {n m r : ℕ} → Puts before n x out m → Puts out m y after r → Puts before n (x ++ y) after r
+puts-then {before} {x} {y} {n} P Q = record { kept = Q .kept ∙ P .kept; is = λ w. Q .is (P .kept ∙ w) ∙ ap (λ (h : Option Bytes). push h y) (P .is w) ∙ push-push (content (held before n)) x y }
 
 -- ---- a part more
 
--- what is held at i and the part from there on make `goal`
-pub record Part (s : Bytes) (to : ℕ) (goal : Option Bytes) (d : Decoded) (i : ℕ) : Type 0 where
-  pub is : push (content d) (take (to - i) (drop i s)) ≡ goal
+-- where the part from i on is put, the whole part is
+pub record Part (s : Bytes) (from to : ℕ) (before : Bytes) (n : ℕ) (out : Bytes) (m i : ℕ) : Type 0 where
+  pub is : (after : Bytes) (r : ℕ) → Puts out m (take (to - i) (drop i s)) after r → Puts before n (take (to - from) (drop from s)) after r
 
-pub part-starts : (s : Bytes) (to : ℕ) (d : Decoded) (i : ℕ) → Part s to (push (content d) (take (to - i) (drop i s))) d i
-part-starts s to d i = record { is = refl }
+pub part-starts : (s : Bytes) (from to : ℕ) (out : Bytes) (n : ℕ) → Part s from to out n out n from
+part-starts s from to out n = record { is = λ after r P. P }
 
-module _ {s : Bytes} {to : ℕ} {goal : Option Bytes} {d : Decoded} {i : ℕ} (P : Part s to goal d i) where
-  pub part-end : to ≤ i → content d ≡ goal
-  part-end h = let z : to - i ≡ 0 = omega arith in sym (push-nil d) ∙ rw z at (P .is)
+module _ {s : Bytes} {from to : ℕ} {before : Bytes} {n : ℕ} {out : Bytes} {m i : ℕ} (P : Part s from to before n out m i) where
+  pub part-end : to ≤ i → Puts before n (take (to - from) (drop from s)) out m
+  part-end h = let z : to - i ≡ 0 = omega arith in P .is out m (rw z (puts-none out m))
 
-  pub part-past : length s ≤ i → content d ≡ goal
-  part-past h = sym (push-nil d) ∙ rw (drop-of-length-le s h, take-nil) at (P .is)
+  pub part-past : length s ≤ i → Puts before n (take (to - from) (drop from s)) out m
+  part-past h = P .is out m (rw (drop-of-length-le s h, take-nil) (puts-none out m))
 
-  pub part-more : {e : Decoded} → i < to → i < length s → content e ≡ push (content d) (getD s i 0 ∷ []) → Part s to goal e (i + 1)
-  part-more {e} h k f =
-      let m : to - i ≡ suc (to - (i + 1)) = omega arith in
-      let z : take (to - i) (drop i s) ≡ getD s i 0 ∷ take (to - (i + 1)) (drop (i + 1) s) = rw (m, drop-cons s i 0 k, add-one i) in
-      record { is = rw (f, push-push) (rw z at (P .is)) }
+  pub part-more : {o : Bytes} {k : ℕ} → i < to → i < length s → Puts out m (getD s i 0 ∷ []) o k → Part s from to before n o k (i + 1)
+  part-more {o} {k} h l Q =
+      let u : to - i ≡ suc (to - (i + 1)) = omega arith in
+      let z : take (to - i) (drop i s) ≡ getD s i 0 ∷ take (to - (i + 1)) (drop (i + 1) s) = rw (u, drop-cons s i 0 l, add-one i) in
+      record { is = λ after r R. P .is after r (rw z (puts-then Q R)) }
 
 -- ---- a code point more
 
-module _ (d : Option Bytes) (c : ℕ) where
-  pub code-one : {r : Option Bytes} → c < 0x80 → r ≡ push d (c ∷ []) → r ≡ push d (encodeUtf8 c)
+module _ (c : ℕ) {a : Bytes} {n : ℕ} where
+  pub code-one : {z : Bytes} {r : ℕ} → c < 0x80 → Puts a n (c ∷ []) z r → Puts a n (encodeUtf8 c) z r
   unfolding encodeUtf8
-  code-one h e = rw (lt-ltb c 0x80 h) e
+  code-one h P = rw (lt-ltb c 0x80 h) P
 
-  pub code-two : {e r : Option Bytes} → 0x80 ≤ c → c < 0x800
-      → e ≡ push d ((0xC0 + c / 64) ∷ []) → r ≡ push e ((0x80 + c % 64) ∷ []) → r ≡ push d (encodeUtf8 c)
+  pub code-two : {b z : Bytes} {m r : ℕ} → 0x80 ≤ c → c < 0x800
+      → Puts a n ((0xC0 + c / 64) ∷ []) b m → Puts b m ((0x80 + c % 64) ∷ []) z r → Puts a n (encodeUtf8 c) z r
   unfolding encodeUtf8
-  code-two h k e f = rw (le-ltb c 0x80 h, lt-ltb c 0x800 k) (f ∙ rw (e, push-push))
+  code-two h k P Q = rw (le-ltb c 0x80 h, lt-ltb c 0x800 k) (puts-then P Q)
 
-  pub code-three : {e f r : Option Bytes} → 0x800 ≤ c → c < 0x10000
-      → e ≡ push d ((0xE0 + c / 4096) ∷ []) → f ≡ push e ((0x80 + c / 64 % 64) ∷ [])
-      → r ≡ push f ((0x80 + c % 64) ∷ []) → r ≡ push d (encodeUtf8 c)
+  pub code-three : {b d z : Bytes} {m k r : ℕ} → 0x800 ≤ c → c < 0x10000
+      → Puts a n ((0xE0 + c / 4096) ∷ []) b m → Puts b m ((0x80 + c / 64 % 64) ∷ []) d k
+      → Puts d k ((0x80 + c % 64) ∷ []) z r → Puts a n (encodeUtf8 c) z r
   unfolding encodeUtf8
-  code-three h k e f g = rw (le-ltb c 0x80 (omega arith), le-ltb c 0x800 h, lt-ltb c 0x10000 k) (g ∙ rw (f, push-push, e, push-push))
+  code-three h k P Q R = rw (le-ltb c 0x80 (omega arith), le-ltb c 0x800 h, lt-ltb c 0x10000 k) (puts-then P (puts-then Q R))
 
-  pub code-four : {e f g r : Option Bytes} → 0x10000 ≤ c
-      → e ≡ push d ((0xF0 + c / 262144 % 8) ∷ []) → f ≡ push e ((0x80 + c / 4096 % 64) ∷ [])
-      → g ≡ push f ((0x80 + c / 64 % 64) ∷ []) → r ≡ push g ((0x80 + c % 64) ∷ []) → r ≡ push d (encodeUtf8 c)
+  pub code-four : {b d e z : Bytes} {m k l r : ℕ} → 0x10000 ≤ c
+      → Puts a n ((0xF0 + c / 262144 % 8) ∷ []) b m → Puts b m ((0x80 + c / 4096 % 64) ∷ []) d k
+      → Puts d k ((0x80 + c / 64 % 64) ∷ []) e l → Puts e l ((0x80 + c % 64) ∷ []) z r → Puts a n (encodeUtf8 c) z r
   unfolding encodeUtf8
-  code-four h e f g i = rw (le-ltb c 0x80 (omega arith), le-ltb c 0x800 (omega arith), le-ltb c 0x10000 h) (i ∙ rw (g, push-push, f, push-push, e, push-push))
+  code-four h P Q R S = rw (le-ltb c 0x80 (omega arith), le-ltb c 0x800 (omega arith), le-ltb c 0x10000 h) (puts-then P (puts-then Q (puts-then R S)))
 
 -- ---- a character more
 
@@ -152,40 +160,29 @@ pub verbatim-bad : {A : Type 0} (p : Reader A) (s : Bytes) (i : ℕ) → readAt 
 unfolding readAt verbatim
 verbatim-bad p s i e = written-bad i (drop i s) (p (drop i s)) e
 
-abbrev Charred : Bytes → ℕ → Decoded → Decoded → Next → Type 0
-Charred s i d x place = Holds (pushRead (content d) (readAt readChar s i)) (placeOf (readAt readChar s i)) (record { decoded = x; end = place })
+module _ (s : Bytes) (i : ℕ) {before out : Bytes} {n b : ℕ} (g : Peeked s i b) where
+  module _ (h : b ≡ 92) {q : Point} (e : q ≡ pointOf (readAt escaped s (i + 1))) where
+    pub held-wrong : q ≡ Wrong → PutsRead before n (readAt readChar s i) out Stuck
+    held-wrong k = is-stuck (char-wrong g h e k)
 
-module _ (s : Bytes) (i : ℕ) (d x : Decoded) where
-  held-bad : readAt readChar s i ≡ bad → content x ≡ none → Charred s i d x Bad
-  unfolding pushRead placeOf
-  held-bad e f = record { held-is = rw e f; end-is = rw e }
+    pub held-code : {c m j : ℕ} → q ≡ Code c j → Puts before n (encodeUtf8 c) out m → PutsRead before n (readAt readChar s i) out (On m j)
+    held-code k P = is-on (char-code g h e k) P
 
-  held-got : {c : Bytes} {j : ℕ} → readAt readChar s i ≡ got c j → content x ≡ push (content d) c → Charred s i d x (At j)
-  unfolding pushRead placeOf
-  held-got e f = record { held-is = rw e f; end-is = rw e }
+  module _ (w : b ≡ 92 → ⊥) {q : Next} (e : q ≡ placeOf (readAt unescaped s i)) where
+    pub held-no : q ≡ Bad → PutsRead before n (readAt readChar s i) out Stuck
+    held-no k = is-stuck (char-raw g w ∙ verbatim-bad unescaped s i (missed _ e k))
 
-  module _ {b : ℕ} (g : Peeked s i b) where
-    module _ (h : b ≡ 92) {q : Point} (e : q ≡ pointOf (readAt escaped s (i + 1))) where
-      pub held-wrong : q ≡ Wrong → content x ≡ none → Charred s i d x Bad
-      held-wrong k f = held-bad (char-wrong g h e k) f
-
-      pub held-code : {c j : ℕ} → q ≡ Code c j → content x ≡ push (content d) (encodeUtf8 c) → Charred s i d x (At j)
-      held-code k f = held-got (char-code g h e k) f
-
-    module _ (n : b ≡ 92 → ⊥) {q : Next} (e : q ≡ placeOf (readAt unescaped s i)) where
-      pub held-no : q ≡ Bad → content x ≡ none → Charred s i d x Bad
-      held-no k f = held-bad (char-raw g n ∙ verbatim-bad unescaped s i (missed _ e k)) f
-
-      pub held-plain : {j : ℕ} → q ≡ At j → content x ≡ push (content d) (take (j - i) (drop i s)) → Charred s i d x (At j)
-      held-plain k f = held-got (char-raw g n ∙ verbatim-at unescaped s i (found _ e k .1)) f
+    pub held-plain : {m j : ℕ} → q ≡ At j → Puts before n (take (j - i) (drop i s)) out m → PutsRead before n (readAt readChar s i) out (On m j)
+    held-plain k P = is-on (char-raw g w ∙ verbatim-at unescaped s i (found _ e k .1)) P
 
 -- ---- a whole string
 
--- at i the loop is among the characters: what is held and the characters from there on make `held` and `place`
-pub record Decodes (s : Bytes) (held : Option Bytes) (place : Next) (d : Decoded) (i : ℕ) : Type 0 where
+-- at i the loop is among the characters: what is held and the characters from there on make `whole` and `place`
+pub record Decodes (s : Bytes) (whole : Option Bytes) (place : Next) (out : Bytes) (n i : ℕ) : Type 0 where
+  pub room : length out ≡ 512
   pub fuel : ℕ
   pub enough : length s - i ≤ fuel
-  pub held-is : pushRead (content d) (readAt (readChars (suc fuel)) s i) ≡ held
+  pub held-is : pushRead (content (held out n)) (readAt (readChars (suc fuel)) s i) ≡ whole
   pub end-is : placeOf (readAt (readChars (suc fuel)) s i) ≡ place
 
 push-first : (r : Read Bytes) → pushRead (some []) r ≡ contentOf r
@@ -206,46 +203,72 @@ module _ {s : Bytes} {from b : ℕ} (g : Peeked s from b) where
       let z : readAt readString s from ≡ bad = then-bad _ _ _ _ (one-no g _ (not-one b 34 h)) in
       record { held-is = rw z f; end-is = rw z }
 
-  pub decode-starts : (d : Decoded) → b ≡ 34 → content d ≡ some [] → Decodes s (contentOf (readAt readString s from)) (placeOf (readAt readString s from)) d (from + 1)
+  pub decode-starts : (out : Bytes) → length out ≡ 512 → b ≡ 34 → Decodes s (contentOf (readAt readString s from)) (placeOf (readAt readString s from)) out 0 (from + 1)
   unfolding readString
-  decode-starts d h f =
+  decode-starts out w h =
       let z : readAt readString s from ≡ readAt (readChars (suc (length (drop (from + 1) s)))) s (from + 1) =
       on _ _ _ _ (one-yes g _ (is-one b 34 h)) ∙ counted-at readChars s (from + 1) in
-      record { fuel = length (drop (from + 1) s); enough = simp length-drop (omega arith); held-is = rw (f, push-first, z); end-is = rw z }
+      record { room = w; fuel = length (drop (from + 1) s); enough = simp length-drop (omega arith); held-is = rw (empty-held out, push-first, z); end-is = rw z }
 
-module _ {s : Bytes} {held : Option Bytes} {place : Next} {d : Decoded} {i b : ℕ} (L : Decodes s held place d i) (g : Peeked s i b) where
-  pub decode-end : b ≡ 34 → Holds held place (record { decoded = d; end = At (i + 1) })
+-- as it is handed over
+given-held : (out : Bytes) (n : ℕ) → content (record { bytes = out; len = n; long = ltb 512 n }) ≡ content (held out n)
+unfolding content
+given-held out n = go (ltb 512 n)
+  where
+    go : (u : Bool) → (if u then none else if u then none else some (take n out)) ≡ (if u then none else some (take n out))
+    go true = refl
+    go false = refl
+
+module _ {s : Bytes} {whole : Option Bytes} {place : Next} {out : Bytes} {n i b : ℕ} (L : Decodes s whole place out n i) (g : Peeked s i b) where
+  pub decode-end : b ≡ 34 → Holds whole place (record { decoded = record { bytes = out; len = n; long = ltb 512 n }; end = At (i + 1) })
   unfolding pushRead placeOf
   decode-end h = record {
-    held-is = sym (push-nil d) ∙ rw (chars-end g (L .fuel) h) at (L .held-is);
+    held-is = given-held out n ∙ sym (push-nil (held out n)) ∙ rw (chars-end g (L .fuel) h) at (L .held-is);
     end-is = rw (chars-end g (L .fuel) h) at (L .end-is);
   }
 
-  module _ {t : Text} (h : b ≡ 34 → ⊥) (H : Holds (pushRead (content d) (readAt readChar s i)) (placeOf (readAt readChar s i)) t) where
-    pub decode-bad : t .end ≡ Bad → Holds held place t
+  module _ {o : Bytes} {r : Progress} (h : b ≡ 34 → ⊥) (H : PutsRead out n (readAt readChar s i) o r) where
+    no-char : r ≡ Stuck → readAt readChar s i ≡ bad
+    no-char k = go H k
+      where
+        go : {r : Progress} → PutsRead out n (readAt readChar s i) o r → r ≡ Stuck → readAt readChar s i ≡ bad
+        go (is-stuck e) k = e
+        go (is-on e f) k = let z : _≡_ {A = ℕ} 0 1 = cc in absurd (omega arith)
+
+    pub decode-bad : (x : Decoded) → r ≡ Stuck → content x ≡ none → Holds whole place (record { decoded = x; end = Bad })
     unfolding pushRead placeOf
-    decode-bad k =
-        let e : readAt readChar s i ≡ bad = missed (readAt readChar s i) (H .end-is) k in
+    decode-bad x k f =
+        let e : readAt readChar s i ≡ bad = no-char k in
         record {
-          held-is = (rw e at (H .held-is)) ∙ rw (chars-stop g (L .fuel) h e) at (L .held-is);
-          end-is = k ∙ rw (chars-stop g (L .fuel) h e) at (L .end-is);
+          held-is = f ∙ rw (chars-stop g (L .fuel) h e) at (L .held-is);
+          end-is = rw (chars-stop g (L .fuel) h e) at (L .end-is);
         }
 
-    module _ {j : ℕ} (k : t .end ≡ At j) where
-      pub decode-less : length s - j < length s - i
-      decode-less = omega (arith, char-moves s i (found (readAt readChar s i) (H .end-is) k .1))
+    module _ {m j : ℕ} (k : r ≡ On m j) where
+      char-here : (c : Bytes) × (readAt readChar s i ≡ got c j) × Puts out n c o m
+      char-here = go H k
+        where
+          go : {r : Progress} → PutsRead out n (readAt readChar s i) o r → r ≡ On m j
+              → (c : Bytes) × (readAt readChar s i ≡ got c j) × Puts out n c o m
+          go (is-stuck e) k = let z : _≡_ {A = ℕ} 0 1 = cc in absurd (omega arith)
+          go (is-on {c} {m = p} {j = q} e f) k =
+              let y : p ≡ m = cc in
+              let z : q ≡ j = cc in
+              (c, rw z at e, rw y at f)
 
-      pub decode-more : Decodes s held place (t .decoded) j
+      pub decode-less : length s - j < length s - i
+      decode-less = omega (arith, char-moves s i (char-here .1))
+
+      pub decode-more : Decodes s whole place o m j
       unfolding pushRead
       decode-more =
-          let f = found (readAt readChar s i) (H .end-is) k in
+          let f = char-here in
           let l : length s - j < length s - i = decode-less in
-          let m : L .fuel ≡ suc (L .fuel - 1) = omega (arith, L .enough) in
-          let c : content (t .decoded) ≡ push (content d) (f .0) = rw (f .1) at (H .held-is) in
+          let p : L .fuel ≡ suc (L .fuel - 1) = omega (arith, L .enough) in
           let R : Read Bytes = readAt (readChars (L .fuel)) s j in
-          let y : pushRead (content (t .decoded)) R ≡ held = rw c (sym (push-on (content d) (f .0) R) ∙ rw (chars-step g (L .fuel) h (f .1)) at (L .held-is)) in
+          let y : pushRead (content (held o m)) R ≡ whole = rw (f .2 .is (L .room)) (sym (push-on (content (held out n)) (f .0) R) ∙ rw (chars-step g (L .fuel) h (f .1)) at (L .held-is)) in
           let z : placeOf R ≡ place = sym (place-mapped (λ cs. f .0 ++ cs) R) ∙ rw (chars-step g (L .fuel) h (f .1)) at (L .end-is) in
-          record { fuel = L .fuel - 1; enough = omega (arith, L .enough); held-is = rw (← m) y; end-is = rw (← m) z }
+          record { room = f .2 .kept ∙ L .room; fuel = L .fuel - 1; enough = omega (arith, L .enough); held-is = rw (← p) y; end-is = rw (← p) z }
 
 -- ---- names
 

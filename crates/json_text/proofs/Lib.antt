@@ -8,4 +8,5 @@ pub mod Plain
 pub mod EscapeSteps
 pub mod Chars
 pub mod Holding
+pub mod PlainSteps
 pub mod Laws

@@ -16,6 +16,8 @@ use Rattle.json_text.specs.declared.Number.{Number}
 use Rattle.json_text.specs.declared.Number.the-variants.{Is, Other}
 use Rattle.json_text.specs.declared.Decoded.{Decoded}
 use Rattle.json_text.specs.declared.Text.{Text}
+use Rattle.json_text.specs.declared.Progress.{Progress}
+use Rattle.json_text.specs.declared.Progress.the-variants.{On, Stuck}
 
 -- what p reads at the place i of s, and the place behind it
 unfoldable pub readAt : {A : Type 0} → Reader A → Bytes → ℕ → Read A
@@ -68,3 +70,19 @@ isText (some t) name = same t name
 pub record Holds (held : Option Bytes) (place : Next) (r : Text) : Type 0 where
   pub held-is : content (r .decoded) ≡ held
   pub end-is : r .end ≡ place
+
+-- ---- while a string is decoded
+
+-- the first n of these bytes; more than are held, where n is above 512
+abbrev pub held : Bytes → ℕ → Decoded
+held bytes n = record { bytes = bytes; len = n; long = false }
+
+-- x is put behind the n bytes that are held, in an array of 512: r bytes are held then
+pub record Puts (before : Bytes) (n : ℕ) (x : Bytes) (after : Bytes) (r : ℕ) : Type 0 where
+  pub kept : length after ≡ length before
+  pub is : length before ≡ 512 → content (held after r) ≡ push (content (held before n)) x
+
+-- the character that is read is put there, and the place behind it; or there is none
+pub data PutsRead (before : Bytes) (n : ℕ) (read : Read Bytes) (after : Bytes) : Progress → Type 0 where
+  is-on : {c : Bytes} {m j : ℕ} → read ≡ got c j → Puts before n c after m → PutsRead before n read after (On m j)
+  is-stuck : read ≡ bad → PutsRead before n read after Stuck

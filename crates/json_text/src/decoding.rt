@@ -2,18 +2,19 @@
 use super::Decoded;
 use super::Next;
 use super::Point;
+use super::Progress;
 use super::Text;
 use super::byte_at;
 use super::escapes::read_escape;
 use super::unescaped::skip_unescaped;
 ghost use mathlib.Core.Path.{_≡_};
 ghost use mathlib.Core.List.{[], _∷_};
-ghost use mathlib.Core.Option.{none, some};
+ghost use mathlib.Core.Option.{none};
 ghost use Prim.Native.Nat.{_-_};
 ghost use lib.ListN.{take, drop};
 ghost use Rattle.json_text.specs.Utf8.{encodeUtf8};
 ghost use Rattle.json_text.specs.Lexical.{readChar, readString};
-ghost use Rattle.json_text.specs.Places.{readAt, placeOf, content, contentOf, push, pushRead, isText, Holds};
+ghost use Rattle.json_text.specs.Places.{readAt, placeOf, content, contentOf, isText, Holds, Puts, PutsRead};
 
 // More than is held, or a wrong string.
 fn no_text() -> Decoded
@@ -26,105 +27,72 @@ fn no_text() -> Decoded
     }
 }
 
-fn empty_text() -> Decoded
-    ensures { λ r. ⌜ content r ≡ some [] ⌝ }
+// One byte more behind the n bytes that are held. A number above 512 says that there are more than are held.
+fn put(out: &mut [u8; 512], n: usize, b: u8) -> usize
+    ensures { λ r. ⌜ Puts (now (out .entry)) n (b ∷ []) (now (out .exit)) r ⌝ }
 {
-    Decoded {
-        bytes: [0u8; 512],
-        len: 0,
-        long: false,
-    }
-}
-
-// One byte more.
-fn put(d: Decoded, b: u8) -> Decoded
-    ensures { λ r. ⌜ content r ≡ push (content d) (b ∷ []) ⌝ }
-{
-    if d.long {
-        return no_text();
-    }
-    let n = d.len;
     if n >= 512 {
-        return no_text();
+        return 513;
     }
-    let mut bytes = d.bytes;
-    bytes[n] = b;
-    Decoded {
-        bytes,
-        len: n + 1,
-        long: false,
-    }
+    out[n] = b;
+    n + 1
 }
 
 // The bytes of a part of s more.
-fn put_part(d: Decoded, s: &[u8], from: usize, to: usize) -> Decoded
-    ensures { λ r. ⌜ content r ≡ push (content d) (take (to - from) (drop from (now (s .entry)))) ⌝ }
+fn put_part(out: &mut [u8; 512], n: usize, s: &[u8], from: usize, to: usize) -> usize
+    ensures { λ r. ⌜ Puts (now (out .entry)) n (take (to - from) (drop from (now (s .entry)))) (now (out .exit)) r ⌝ }
 {
-    let mut e = d;
+    let mut m = n;
     let mut i = from;
     while i < to {
         if i < s.len() {
-            e = put(e, s[i]);
+            m = put(out, m, s[i]);
             i += 1;
         } else {
-            return e;
+            return m;
         }
     }
-    e
+    m
 }
 
 // The bytes of a code point more.
-fn put_code(d: Decoded, c: u32) -> Decoded
-    ensures { λ r. ⌜ content r ≡ push (content d) (encodeUtf8 c) ⌝ }
+fn put_code(out: &mut [u8; 512], n: usize, c: u32) -> usize
+    ensures { λ r. ⌜ Puts (now (out .entry)) n (encodeUtf8 c) (now (out .exit)) r ⌝ }
 {
     if c < 0x80 {
-        return put(d, c as u8);
+        return put(out, n, c as u8);
     }
     if c < 0x800 {
-        let e = put(d, (0xC0 + c / 64) as u8);
-        return put(e, (0x80 + c % 64) as u8);
+        let e = put(out, n, (0xC0 + c / 64) as u8);
+        return put(out, e, (0x80 + c % 64) as u8);
     }
     if c < 0x10000 {
-        let e = put(d, (0xE0 + c / 4096) as u8);
-        let f = put(e, (0x80 + c / 64 % 64) as u8);
-        return put(f, (0x80 + c % 64) as u8);
+        let e = put(out, n, (0xE0 + c / 4096) as u8);
+        let f = put(out, e, (0x80 + c / 64 % 64) as u8);
+        return put(out, f, (0x80 + c % 64) as u8);
     }
-    let e = put(d, (0xF0 + c / 262144 % 8) as u8);
-    let f = put(e, (0x80 + c / 4096 % 64) as u8);
-    let g = put(f, (0x80 + c / 64 % 64) as u8);
-    put(g, (0x80 + c % 64) as u8)
+    let e = put(out, n, (0xF0 + c / 262144 % 8) as u8);
+    let f = put(out, e, (0x80 + c / 4096 % 64) as u8);
+    let g = put(out, f, (0x80 + c / 64 % 64) as u8);
+    put(out, g, (0x80 + c % 64) as u8)
 }
 
 // One character of a string more.
-fn put_char(d: Decoded, s: &[u8], from: usize) -> Text
-    ensures { λ r. ⌜ Holds (pushRead (content d) (readAt readChar (now (s .entry)) from)) (placeOf (readAt readChar (now (s .entry)) from)) r ⌝ }
+fn put_char(out: &mut [u8; 512], n: usize, s: &[u8], from: usize) -> Progress
+    ensures { λ r. ⌜ PutsRead (now (out .entry)) n (readAt readChar (now (s .entry)) from) (now (out .exit)) r ⌝ }
 {
     if byte_at(s, from) == 92 {
         let Point::Code(c, i) = read_escape(s, from + 1) else {
-            let wrong = no_text();
-            return Text {
-                decoded: wrong,
-                end: Next::Bad,
-            };
+            return Progress::Stuck;
         };
-        let coded = put_code(d, c);
-        return Text {
-            decoded: coded,
-            end: Next::At(i),
-        };
+        let m = put_code(out, n, c);
+        return Progress::On(m, i);
     }
     let Next::At(j) = skip_unescaped(s, from) else {
-        let bad = no_text();
-        return Text {
-            decoded: bad,
-            end: Next::Bad,
-        };
+        return Progress::Stuck;
     };
-    let plain = put_part(d, s, from, j);
-    Text {
-        decoded: plain,
-        end: Next::At(j),
-    }
+    let m = put_part(out, n, s, from, j);
+    Progress::On(m, j)
 }
 
 // The string at a place, decoded, and the place behind it.
@@ -138,21 +106,29 @@ pub fn decode_string(s: &[u8], from: usize) -> Text
             end: Next::Bad,
         };
     }
-    let mut d = empty_text();
+    let mut bytes = [0u8; 512];
+    let mut n = 0;
     let mut i = from + 1;
     loop {
         if byte_at(s, i) == 34 {
+            let decoded = Decoded {
+                bytes,
+                len: n,
+                long: 512 < n,
+            };
             return Text {
-                decoded: d,
+                decoded,
                 end: Next::At(i + 1),
             };
         }
-        let t = put_char(d, s, i);
-        let e = t.end;
-        let Next::At(j) = e else {
-            return t;
+        let Progress::On(m, j) = put_char(&mut bytes, n, s, i) else {
+            let wrong = no_text();
+            return Text {
+                decoded: wrong,
+                end: Next::Bad,
+            };
         };
-        d = t.decoded;
+        n = m;
         i = j;
     }
 }

@@ -42,6 +42,12 @@ pub struct Text {
     pub end: Next,
 }
 
+// How many bytes are held after a character, and the place behind it; or the character is wrong.
+pub enum Progress {
+    On(usize, usize),
+    Stuck,
+}
+
 pub fn wide(x: u8) -> u16
     ensures { λ r. ⌜ (r ≡ x) × (r < 256) ⌝ }
 {

@@ -8,6 +8,7 @@ ghost use mathlib.Core.Path.{_≡_};
 ghost use Rattle.json_text.specs.Reader.{counted};
 ghost use Rattle.json_text.specs.Lexical.{readChar, readChars, readString};
 ghost use Rattle.json_text.specs.Places.{readAt, placeOf};
+ghost use Rattle.json_text.specs.PlainString.{PlainIs};
 
 fn skip_char(s: &[u8], from: usize) -> Next
     ensures { λ r. ⌜ r ≡ placeOf (readAt readChar (now (s .entry)) from) ⌝ }
@@ -45,4 +46,26 @@ pub fn skip_string(s: &[u8], from: usize) -> Next
     } else {
         Next::Bad
     }
+}
+
+// The closing quotation mark of the string at a place, where the string has no escapes: its bytes are those between.
+// For a string that was read before: what stands there is not tested again.
+pub fn plain_end(s: &[u8], from: usize) -> Next
+    ensures { λ r. ⌜ PlainIs (now (s .entry)) from r ⌝ }
+{
+    if s.len() <= from {
+        return Next::Bad;
+    }
+    let mut i = from + 1;
+    while i < s.len() {
+        let b = s[i];
+        if b == 34 {
+            return Next::At(i);
+        }
+        if b == 92 {
+            return Next::Bad;
+        }
+        i += 1;
+    }
+    Next::Bad
 }

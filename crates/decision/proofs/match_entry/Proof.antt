@@ -7,37 +7,27 @@ pub match-entry-spec : {M : Type 1} → statement M
 match-entry-spec =
     tie.close
     (tie.spec
-    {- decode-string-requires -}
+    {- plain-end-requires -}
     (λ c κs. search steps)
-    {- enum-known-e -}
+    {- enum-known-q -}
     (λ c. search steps)
     {- enum-told -}
     (λ c. search steps)
+    {- match-escaped-requires -}
+    (λ c κs. search steps)
     {- returns -}
     (λ c. search steps)
-    {- judge-decoded-requires -}
-    (λ c κs. search steps)
-    {- enum-told-2 -}
+    {- add-from -}
     (λ c. search steps)
-    {- matches-held-requires -}
+    {- sub-match-part -}
+    (λ c. search steps)
+    {- part-match-part-start -}
+    (λ c. search steps)
+    {- part-match-part-end -}
+    (λ c. search steps)
+    {- add-match-part -}
+    (λ c. search steps)
+    {- match-part-requires -}
     (λ c κs. search steps)
     {- returns-2 -}
-    (λ c. search steps)
-    {- enum-told-3 -}
-    (λ c. search steps)
-    {- enum-told-4 -}
-    (λ c. search steps)
-    {- enum-told-5 -}
-    (λ c. search steps)
-    {- enum-told-6 -}
-    (λ c. search steps)
-    {- returns-3 -}
-    (λ c. search steps)
-    {- returns-4 -}
-    (λ c. search steps)
-    {- returns-5 -}
-    (λ c. search steps)
-    {- returns-6 -}
-    (λ c. search steps)
-    {- returns-7 -}
     (λ c. search steps))

@@ -9,10 +9,10 @@ use Rattle.json_text.proofs.decoding.decode_string.Statement.{statement
 use Rattle.json_text.proofs.decoding.decode_string.Tie as tie
 
 abbrev Inv-loop : tie.InvT-loop
-Inv-loop s from d₀ i₀ d i = Decodes s (contentOf (readAt readString s from)) (placeOf (readAt readString s from)) d i
+Inv-loop s from bytes₀ n₀ i₀ bytes n i = Decodes s (contentOf (readAt readString s from)) (placeOf (readAt readString s from)) bytes n i
 
 abbrev μ-loop : tie.MeasureT-loop
-μ-loop s from d₀ i₀ d i = length s - i
+μ-loop s from bytes₀ n₀ i₀ bytes n i = length s - i
 
 pub decode-string-spec : {M : Type 1} → statement M
 decode-string-spec =
@@ -26,24 +26,24 @@ decode-string-spec =
     (λ c κs. search fits)
     {- returns -}
     (λ c. search decoding-laws)
-    {- empty-text-requires -}
-    (λ c κs. search fits)
     {- add-i -}
     (λ c. search fits)
     {- loop-holds -}
     (λ c. search decoding-laws)
     {- byte-at-requires-2 -}
     (λ c κs. search fits)
-    {- add-t14 -}
+    {- add-t18 -}
     (λ c. search fits)
     {- returns-2 -}
     (λ c. search decoding-laws)
     {- put-char-requires -}
     (λ c κs. search fits)
-    {- enum-known-e -}
+    {- enum-known-m -}
     (λ c. search fits)
     {- enum-told -}
     (λ c. search fits)
+    {- no-text-requires-2 -}
+    (λ c κs. search fits)
     {- returns-3 -}
     (λ c. search decoding-laws)
     {- loop-less -}

@@ -4,20 +4,4 @@ use Rattle.json_text.proofs.decoding.put.Statement.{statement}
 use Rattle.json_text.proofs.decoding.put.Tie as tie
 
 pub put-spec : {M : Type 1} → statement M
-put-spec =
-    tie.close
-    (tie.spec
-    {- no-text-requires -}
-    (λ c κs. search fits)
-    {- returns -}
-    (λ c. search decoding-laws)
-    {- no-text-requires-2 -}
-    (λ c κs. search fits)
-    {- returns-2 -}
-    (λ c. search decoding-laws)
-    {- array-write-bytes -}
-    (λ c. search decoding-laws)
-    {- add-t9 -}
-    (λ c. search fits)
-    {- returns-3 -}
-    (λ c. search decoding-laws))
+put-spec = tie.close (tie.spec {- returns -} (λ c. search decoding-laws) {- element-write-out -} (λ c. search decoding-laws) {- add-result -} (λ c. search fits) {- returns-2 -} (λ c. search decoding-laws))

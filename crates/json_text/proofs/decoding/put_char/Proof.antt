@@ -17,8 +17,6 @@ put-char-spec =
     (λ c. search fits)
     {- enum-told -}
     (λ c. search fits)
-    {- no-text-requires -}
-    (λ c κs. search fits)
     {- returns -}
     (λ c. search decoding-laws)
     {- put-code-requires -}
@@ -31,8 +29,6 @@ put-char-spec =
     (λ c. search fits)
     {- enum-told-2 -}
     (λ c. search fits)
-    {- no-text-requires-2 -}
-    (λ c κs. search fits)
     {- returns-3 -}
     (λ c. search decoding-laws)
     {- put-part-requires -}

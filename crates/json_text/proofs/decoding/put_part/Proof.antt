@@ -1,17 +1,15 @@
 -- `json_text::put_part` meets its contract.
 use Prim.Native.Nat.{_-_}
-use lib.ListN.{take, drop}
-use Rattle.json_text.specs.Places.{content, push}
 use Rattle.json_text.proofs.Holding.{Part}
 use Rattle.json_text.proofs.Laws.{decoding-laws, fits}
 use Rattle.json_text.proofs.decoding.put_part.Statement.{statement}
 use Rattle.json_text.proofs.decoding.put_part.Tie as tie
 
 abbrev Inv-loop : tie.InvT-loop
-Inv-loop s from to e₀ i₀ e i = Part s to (push (content e₀) (take (to - from) (drop from s))) e i
+Inv-loop out₀ n s from to m₀ i₀ out m i = Part s from to out₀ n out m i
 
 abbrev μ-loop : tie.MeasureT-loop
-μ-loop s from to e₀ i₀ e i = to - i
+μ-loop out₀ n s from to m₀ i₀ out m i = to - i
 
 pub put-part-spec : {M : Type 1} → statement M
 put-part-spec =
