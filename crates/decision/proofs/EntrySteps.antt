@@ -58,11 +58,11 @@ unfolding causeOf
 too-long appid table e h = ap isNone (sym h)
 
 module _ (caller table label : Bytes) (deeper : Bool) (s : Bytes) (at : ℕ) {t : Text} (H : Holds (contentOf (readAt readString s at)) (placeOf (readAt readString s at)) t) where
+  pub no-string : t .end ≡ Bad → (e : Bytes) (j : ℕ) → readAt readString s at ≡ got e j → ⊥
+  no-string b e j f = unfold placeOf in (let x : Bad ≡ At j = sym b ∙ H .end-is ∙ rw f in let z : _≡_ {A = ℕ} 0 1 = cc in omega arith)
+
   pub step-wrong : t .end ≡ Bad → StepIs caller table label deeper s at Wrong
-  step-wrong b = record { is = λ appid e j O f. absurd (apart e j f) }
-    where
-      apart : (e : Bytes) (j : ℕ) → readAt readString s at ≡ got e j → ⊥
-      apart e j f = unfold placeOf in (let x : Bad ≡ At j = sym b ∙ H .end-is ∙ rw f in let z : _≡_ {A = ℕ} 0 1 = cc in omega arith)
+  step-wrong b = record { is = λ appid e j O f. absurd (no-string b e j f) }
 
   module _ {j : ℕ} (p : t .end ≡ At j) where
     pub end-is : (e : Bytes) (k : ℕ) → readAt readString s at ≡ got e k → j ≡ k
