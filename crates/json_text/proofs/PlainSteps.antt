@@ -15,13 +15,13 @@ use Rattle.json_text.specs.Reader.{Read, got, bad, Reader, more, behind,
 use Rattle.json_text.specs.Utf8.{utf8Tail, thenTail, thenTails, multibyteChar}
 use Rattle.json_text.specs.Lexical.{unescaped, readChar, readChars, readString}
 use Rattle.json_text.specs.Places.{Peeked, readAt, placeOf}
-use Rattle.json_text.specs.PlainString.{isPlain, isAsciiChar, Within, in-text, no-place, Plain, is-plain, is-other, PlainIs}
+use Rattle.json_text.specs.PlainString.{isPlain, isAsciiChar, AsciiString, is-short, is-unknown, Within, in-text, no-place, Plain, is-plain, is-other, PlainIs}
 use Rattle.json_text.specs.declared.Next.{Next}
 use Rattle.json_text.specs.declared.Next.the-variants.{At, Bad}
-use Rattle.json_text.proofs.Steps.{on, then-bad, one-yes, one-no, counted-at, is-one, not-one, fail-at, no-fall, inside, under, above}
+use Rattle.json_text.proofs.Steps.{on, then-bad, one-yes, one-no, counted-at, is-one, not-one, fail-at, inside, under, above}
 use Rattle.json_text.proofs.Scan.{scan-stop, scan-more}
 use Rattle.json_text.proofs.Plain.{plain-20, plain-23, plain-5d}
-use Rattle.json_text.proofs.Chars.{char-raw, char-plain, chars-end, chars-stop, chars-step, Spells, spells-end, spells-bad, spells-less, spells-more}
+use Rattle.json_text.proofs.Chars.{char-raw, char-plain, chars-end, chars-stop, chars-step, Spells, spells-starts, spells-end, spells-more, string-some}
 use Rattle.json_text.proofs.Holding.{verbatim-at, verbatim-bad}
 
 -- ---- plain bytes
@@ -321,21 +321,14 @@ module _ {s : Bytes} {goal : Next} {i k b : ℕ} (L : Spells s goal i) (e : read
       go : readAt (many isAsciiChar) s i ≡ got tt k → Spells s goal k
       go e = unfold readAt many more in (let z : i + countWhile isAsciiChar (drop i s) ≡ k = cc in rw z at (ascii-on (countWhile isAsciiChar (drop i s)) s goal i refl L))
 
-  pub ascii-end : b ≡ 34 → At (k + 1) ≡ goal
+  ascii-end : b ≡ 34 → At (k + 1) ≡ goal
   ascii-end h = spells-end on-to g h
 
-  module _ (h : b ≡ 34 → ⊥) {q : Next} (f : q ≡ placeOf (readAt readChar s k)) where
-    pub ascii-bad : q ≡ Bad → Bad ≡ goal
-    ascii-bad n = spells-bad on-to g h f n
+pub ascii-none : (s : Bytes) (from : ℕ) → AsciiString s from Bad
+ascii-none s from = is-unknown
 
-    pub ascii-less : {j : ℕ} → q ≡ At j → length s - j < length s - i
-    ascii-less {j} n =
-        let x : length s - j < length s - k = spells-less on-to g h f n in
-        let y : i ≤ k = no-fall (many isAsciiChar) s i e in
-        omega arith
-
-    pub ascii-more : {j : ℕ} → q ≡ At j → Spells s goal j
-    ascii-more n = spells-more on-to g h f n
+pub ascii-string : (s : Bytes) (from : ℕ) {k b c : ℕ} → Peeked s from b → b ≡ 34 → readAt (many isAsciiChar) s (from + 1) ≡ got tt k → Peeked s k c → c ≡ 34 → AsciiString s from (At (k + 1))
+ascii-string s from g h e f n = is-short (record { is = sym h ∙ g .is }) (string-some g h (ascii-end (spells-starts s (from + 1)) e f n))
 
 -- ---- the string at a place
 
