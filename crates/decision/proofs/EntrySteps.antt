@@ -7,9 +7,9 @@ use Prim.Native.Nat.{ℕ, zero, suc, _+_, _-_, _≤_, _<_, _^_}
 use native.Mathlib.Omega.{arith}
 use mir.Syntax.{w64}
 use mir.Val.{Fits}
-use lib.Dec.{eqb, leb, ltb}
+use lib.Dec.{eqb, ltb}
 use lib.ListN.{length, take, drop}
-use borrow.Author.Tests.{eqb-true, eqb-false, lt-ltb, le-ltb, ltb-false, le-leb}
+use borrow.Author.Tests.{eqb-true, eqb-false, ltb-false, le-leb}
 use Rattle.ascii.specs.Ascii.{Bytes, if_then_else_, _>>=_ as _then_, isNone, filterBy, text}
 use Rattle.origin.specs.Matching.{facetMatches}
 use Rattle.json_text.specs.Reader.{Read, got, bad, _>>=_, _>>_, oneOf, counted, peek}
@@ -17,7 +17,6 @@ use Rattle.json_text.specs.Lexical.{ws, readChars, readString}
 use Rattle.json_text.specs.Places.{Peeked, readAt, placeOf, fit, content, contentOf, Holds}
 use Rattle.json_text.specs.declared.Next.{Next}
 use Rattle.json_text.specs.declared.Next.the-variants.{At, Bad}
-use Rattle.json_text.specs.declared.Decoded.{Decoded}
 use Rattle.json_text.specs.declared.Text.{Text}
 use Rattle.json_text.proofs.Holding.{content-short}
 use Rattle.json_text.proofs.Steps.{peek-in, one-yes, one-no, no-fall, is-one, not-one, found}
@@ -25,11 +24,11 @@ use Rattle.trusted_list.specs.Slots.{idsAt}
 use Rattle.trusted_list.specs.Entries.{toNext, firstEntry, nextEntry, Coming, over, comes}
 use Rattle.trusted_list.proofs.MemberLaws.{Bound, bound}
 use Rattle.trusted_list.proofs.EntryLaws.{entries-come}
-use Rattle.causes.specs.Causes.{Cause, tooLong, otherScheme, notFacet, otherLabel, cause, kept}
+use Rattle.causes.specs.Causes.{Cause, tooLong, cause, kept}
 use Rattle.causes.specs.Owner.{Owns, JudgesHeld, causeOf}
 use Rattle.causes.proofs.CauseLaws.{fit-some, held-long, held-over}
 use Rattle.causes.specs.declared.Verdict.{Verdict}
-use Rattle.causes.specs.declared.Verdict.the-variants.{Kept, TooLong, OtherScheme, NotFacet, OtherLabel}
+use Rattle.causes.specs.declared.Verdict.the-variants.{Kept, TooLong}
 use Rattle.decision.specs.Decide.{firstMatch}
 use Rattle.decision.specs.Meaning.{Owned, IdsThere, entriesAt, matchOf, Passes, matches-it, is-kept, is-dropped, PartIs, StepIs}
 use Rattle.decision.specs.declared.Match.{Match}

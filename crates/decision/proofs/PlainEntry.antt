@@ -1,7 +1,6 @@
 -- An entry without escapes: the part of the body between its quotation marks.
-use mathlib.Core.Path.{_≡_, refl, sym, ap, _∙_}
+use mathlib.Core.Path.{_≡_, sym, ap, _∙_}
 use mathlib.Core.Bool.{Bool, true, false}
-use mathlib.Core.Option.{Option, none, some}
 use Prim.Native.Nat.{ℕ, _+_, _-_, _≤_, _<_, _^_}
 use native.Mathlib.Omega.{arith}
 use mir.Syntax.{w64}
@@ -14,14 +13,14 @@ use Rattle.json_text.specs.Lexical.{readString}
 use Rattle.json_text.specs.Places.{readAt}
 use Rattle.json_text.specs.PlainString.{Within, in-text, no-place, Plain, is-plain, is-other, PlainIs}
 use Rattle.json_text.specs.declared.Next.{Next}
-use Rattle.json_text.specs.declared.Next.the-variants.{At, Bad}
-use Rattle.causes.specs.Causes.{Cause, tooLong, otherScheme, notFacet, otherLabel, cause}
+use Rattle.json_text.specs.declared.Next.the-variants.{At}
+use Rattle.causes.specs.Causes.{cause}
 use Rattle.causes.specs.Owner.{Owns, Judges, causeOf}
 use Rattle.causes.specs.declared.Verdict.{Verdict}
 use Rattle.causes.specs.declared.Verdict.the-variants.{Kept, TooLong, OtherScheme, NotFacet, OtherLabel}
-use Rattle.decision.specs.Meaning.{Passes, matches-it, is-kept, is-dropped, PartIs, StepIs}
+use Rattle.decision.specs.Meaning.{matches-it, is-kept, is-dropped, PartIs, StepIs}
 use Rattle.decision.specs.declared.Step.{Step}
-use Rattle.decision.specs.declared.Step.the-variants.{Matched, Goes, Wrong}
+use Rattle.decision.specs.declared.Step.the-variants.{Matched, Goes}
 
 -- ---- where it stands, for every reader of entries
 

@@ -14,7 +14,7 @@ use Rattle.json_text.specs.Utf8.{thenTail, thenTails, multibyteChar, encodeUtf8
 use Rattle.json_text.specs.Lexical.{ws, readNumber, unescaped, escaped, readChar, readChars, readString}
 use Rattle.json.specs.Json.{Json, literal, number, string, array, object, toItems, toMembers, items, listed, readMember, readArray, readObject, valueOf, readValue, readText, valueRead, readJson}
 use Rattle.json.specs.RawJson.{rawUnescaped, rawChar, rawChars, rawString, rawMember, rawArray, rawObject, rawValueOf, rawValue, rawText, rawJson}
-use Rattle.json_text.proofs.Steps.{inside, under, above}
+use Rattle.json_text.proofs.Steps.{inside, under, above, between-tells}
 use Rattle.json_text.proofs.Chars.{Ahead, ahead-char}
 use Rattle.json.proofs.Valid.{start, Goes, Leads, Whole, whole-ws, whole-byte, whole-char, whole-string, whole-value, same-start, whole-give, whole-next, leads-bind, whole-items, whole-member, readable-utf8}
 
@@ -233,14 +233,6 @@ unfolding mapped more
 no-tails (got a m) = ap (got a) (omega arith)
 no-tails bad = refl
 
-both-in : (lo hi b : ℕ) → between lo hi b ≡ true → (lo ≤ b) × (b ≤ hi)
-both-in lo hi b e = go (leb lo b) (leb b hi) refl refl e
-  where
-    go : (t u : Bool) → leb lo b ≡ t → leb b hi ≡ u → t && u ≡ true → (lo ≤ b) × (b ≤ hi)
-    go true true x y z = (leb-true lo b x, leb-true b hi y)
-    go true false x y z = never refl z
-    go false u x y z = never refl z
-
 -- k bytes of a character are left
 tails-agree : (n m k lo hi : ℕ) (l : Bytes) → 0x80 ≤ lo → hi ≤ 0xBF → utf8From (due k lo hi) l ≡ true → length l < m
     → ((m′ : ℕ) (x : Bytes) → length x ≤ length l → length x < m′ → utf8From start x ≡ true → readChars n x ≡ rawChars m′ x)
@@ -250,7 +242,7 @@ tails-agree n m (suc k) lo hi [] x y u h ih = never (no-tail k lo hi) u
 tails-agree n zero (suc k) lo hi (b ∷ l) x y u h ih = absurd (omega arith)
 tails-agree n (suc m) (suc k) lo hi (b ∷ l) x y u h ih =
     let t = tail-in k lo hi b l u in
-    let w = both-in lo hi b (t .0) in
+    let w = between-tells lo hi b (t .0) in
     raw-step m b l (omega (arith, w .0)) (omega (arith, w .1))
     ∙ rw (tails-agree n m k 0x80 0xBF l (omega arith) (omega arith) (t .1) (omega arith) (λ m′ z p. ih m′ z (omega arith))) (join-tails b k (take k l) (readChars n (drop k l)))
 

@@ -1,27 +1,26 @@
 -- A string without escapes: its bytes as they stand.
 use mathlib.Core.Path.{_≡_, refl, ap, sym, _∙_}
-use mathlib.Core.Bool.{Bool, true, false, _&&_, not, and-eq-true-iff}
-use mathlib.Core.List.{List, [], _∷_, _++_}
+use mathlib.Core.Bool.{Bool, true, false, not, and-eq-true-iff}
+use mathlib.Core.List.{[], _∷_, _++_}
 use Prim.Native.Nat.{ℕ, zero, suc, _+_, _-_, _≤_, _<_}
 use native.Mathlib.Nat.{lt-irrefl, add-zero}
 use native.Mathlib.Omega.{arith}
-use native.Mathlib.Numerals.{add-one}
 use borrow.Author.Tests.{eqb-true, eqb-false, leb-true, leb-false, ne-eqb, eq-eqb}
 use lib.Dec.{eqb, leb}
 use lib.ListN.{length, getD, take, drop}
 use lib.Seq.{drop-cons, drop-drop, take-add}
 use Rattle.ascii.specs.Ascii.{Bytes, if_then_else_, between}
-use Rattle.json_text.specs.Reader.{Read, got, bad, Reader, more, behind, _>>=_, _>>_, give, fail, peek, satisfy, byteRange, countWhile, many, lead_to_then_else_, mapped, verbatim, counted}
+use Rattle.json_text.specs.Reader.{Read, got, bad, Reader, more, behind, _>>=_, _>>_, give, fail, peek, satisfy, byteRange, countWhile, many, lead_to_then_else_, mapped}
 use Rattle.json_text.specs.Utf8.{utf8Tail, thenTail, thenTails, multibyteChar}
 use Rattle.json_text.specs.Lexical.{unescaped, readChar, readChars, readString}
 use Rattle.json_text.specs.Places.{Peeked, readAt, placeOf}
-use Rattle.json_text.specs.PlainString.{isPlain, isAsciiChar, Within, in-text, no-place, Plain, is-plain, is-other, PlainIs}
+use Rattle.json_text.specs.PlainString.{isPlain, isAsciiChar, AsciiString, is-short, is-unknown, in-text, no-place, is-plain, is-other, PlainIs}
 use Rattle.json_text.specs.declared.Next.{Next}
 use Rattle.json_text.specs.declared.Next.the-variants.{At, Bad}
-use Rattle.json_text.proofs.Steps.{on, then-bad, one-yes, one-no, counted-at, is-one, not-one, fail-at, no-fall, inside, under, above}
+use Rattle.json_text.proofs.Steps.{on, then-bad, one-yes, one-no, counted-at, is-one, not-one, fail-at, inside, under, above, between-tells}
 use Rattle.json_text.proofs.Scan.{scan-stop, scan-more}
 use Rattle.json_text.proofs.Plain.{plain-20, plain-23, plain-5d}
-use Rattle.json_text.proofs.Chars.{char-raw, char-plain, chars-end, chars-stop, chars-step, Spells, spells-end, spells-bad, spells-less, spells-more}
+use Rattle.json_text.proofs.Chars.{char-raw, char-plain, chars-end, chars-stop, chars-step, Spells, spells-starts, spells-end, spells-more, string-some}
 use Rattle.json_text.proofs.Holding.{verbatim-at, verbatim-bad}
 
 -- ---- plain bytes
@@ -76,13 +75,6 @@ clear-if : {A : Type 0} (l : Bytes) (t : Bool) (r o : Read A) → (t ≡ true �
 clear-if l true r o p q = p refl
 clear-if l false r o p q = q
 
-in-band : (lo hi b : ℕ) → between lo hi b ≡ true → (lo ≤ b) × (b ≤ hi)
-in-band lo hi b e = go (leb lo b) refl e
-  where
-    go : (u : Bool) → leb lo b ≡ u → u && leb b hi ≡ true → (lo ≤ b) × (b ≤ hi)
-    go true f e = (leb-true lo b f, leb-true b hi e)
-    go false f e = let z : _≡_ {A = ℕ} 0 1 = cc in absurd (omega arith)
-
 clear-more : {A : Type 0} (b : ℕ) (l : Bytes) → isPlain b ≡ true → (r : Read A) → Clear l r → Clear (b ∷ l) (more 1 r)
 unfolding more countWhile
 clear-more b l e (got a n) h = rw e (omega arith)
@@ -94,10 +86,10 @@ module _ {A : Type 0} (lo hi : ℕ) (B : Band lo hi) (p : Reader A) (P : (l : By
   clear-then l = go l (between lo hi (peek l)) refl
     where
       empty : between lo hi (peek []) ≡ true → ⊥
-      empty e = unfold peek in (let x = in-band lo hi 256 e in lt-irrefl 256 (B 256 (x .0) (x .1) .1))
+      empty e = unfold peek in (let x = between-tells lo hi 256 e in lt-irrefl 256 (B 256 (x .0) (x .1) .1))
 
       front : (b : ℕ) (l : Bytes) → between lo hi (peek (b ∷ l)) ≡ true → isPlain b ≡ true
-      front b l e = unfold peek in (let x = in-band lo hi b e in B b (x .0) (x .1) .0)
+      front b l e = unfold peek in (let x = between-tells lo hi b e in B b (x .0) (x .1) .0)
 
       go : (l : Bytes) (u : Bool) → between lo hi (peek l) ≡ u → Clear l (behind (if u then got (tt {0}) 1 else bad) l (λ a. p))
       go l false e = unfold behind in tt
@@ -126,11 +118,11 @@ clear-one lo hi B l = go l (between lo hi (peek l)) refl
     go [] true e = absurd (empty e)
       where
         empty : between lo hi (peek []) ≡ true → ⊥
-        empty e = unfold peek in (let x = in-band lo hi 256 e in lt-irrefl 256 (B 256 (x .0) (x .1) .1))
+        empty e = unfold peek in (let x = between-tells lo hi 256 e in lt-irrefl 256 (B 256 (x .0) (x .1) .1))
     go (b ∷ l) true e = front e
       where
         front : between lo hi (peek (b ∷ l)) ≡ true → 1 ≤ plains (b ∷ l)
-        front e = unfold peek countWhile in (let x = in-band lo hi b e in rw (B b (x .0) (x .1) .0) (omega arith))
+        front e = unfold peek countWhile in (let x = between-tells lo hi b e in rw (B b (x .0) (x .1) .0) (omega arith))
 
 clear-tail : (lo hi : ℕ) → 92 < lo → hi < 256 → (l : Bytes) → Clear l (thenTail lo hi l)
 clear-tail lo hi h k = clear-then lo hi (band-high lo hi h k) utf8Tail (clear-one 0x80 0xBF (band-high 0x80 0xBF (omega arith) (omega arith)))
@@ -268,14 +260,11 @@ module _ (b : ℕ) where
   unfolding isAsciiChar isPlain
   ascii-other h k n = rw (inside 0x20 0x7F b h k, ne-eqb b 34 n)
 
-both : (a b : Bool) → (a && b) ≡ true → (a ≡ true) × (b ≡ true)
-both a b = and-eq-true-iff a b .0
-
 ascii-tells : (b : ℕ) → isAsciiChar b ≡ true → (0x20 ≤ b) × (b ≤ 0x7F) × (b ≡ 34 → ⊥) × (b ≡ 92 → ⊥)
 unfolding isAsciiChar
 ascii-tells b e =
-    let x = both (between 0x20 0x7F b) (isPlain b) e in
-    let y = in-band 0x20 0x7F b (x .0) in
+    let x = and-eq-true-iff (between 0x20 0x7F b) (isPlain b) .0 e in
+    let y = between-tells 0x20 0x7F b (x .0) in
     (y .0, y .1, λ h. not-both (plain-not b h) (x .1), λ h. not-both (plain-back b h) (x .1))
   where
     not-both : isPlain b ≡ false → isPlain b ≡ true → ⊥
@@ -321,21 +310,14 @@ module _ {s : Bytes} {goal : Next} {i k b : ℕ} (L : Spells s goal i) (e : read
       go : readAt (many isAsciiChar) s i ≡ got tt k → Spells s goal k
       go e = unfold readAt many more in (let z : i + countWhile isAsciiChar (drop i s) ≡ k = cc in rw z at (ascii-on (countWhile isAsciiChar (drop i s)) s goal i refl L))
 
-  pub ascii-end : b ≡ 34 → At (k + 1) ≡ goal
+  ascii-end : b ≡ 34 → At (k + 1) ≡ goal
   ascii-end h = spells-end on-to g h
 
-  module _ (h : b ≡ 34 → ⊥) {q : Next} (f : q ≡ placeOf (readAt readChar s k)) where
-    pub ascii-bad : q ≡ Bad → Bad ≡ goal
-    ascii-bad n = spells-bad on-to g h f n
+pub ascii-none : (s : Bytes) (from : ℕ) → AsciiString s from Bad
+ascii-none s from = is-unknown
 
-    pub ascii-less : {j : ℕ} → q ≡ At j → length s - j < length s - i
-    ascii-less {j} n =
-        let x : length s - j < length s - k = spells-less on-to g h f n in
-        let y : i ≤ k = no-fall (many isAsciiChar) s i e in
-        omega arith
-
-    pub ascii-more : {j : ℕ} → q ≡ At j → Spells s goal j
-    ascii-more n = spells-more on-to g h f n
+pub ascii-string : (s : Bytes) (from : ℕ) {k b c : ℕ} → Peeked s from b → b ≡ 34 → readAt (many isAsciiChar) s (from + 1) ≡ got tt k → Peeked s k c → c ≡ 34 → AsciiString s from (At (k + 1))
+ascii-string s from g h e f n = is-short (record { is = sym h ∙ g .is }) (string-some g h (ascii-end (spells-starts s (from + 1)) e f n))
 
 -- ---- the string at a place
 

@@ -2,13 +2,13 @@
 use mir.Syntax.{w64}
 use mir.Val.{Fits}
 use mathlib.Core.Path.{_≡_, refl, ap, sym, _∙_}
-use mathlib.Core.Bool.{Bool, true, false, _&&_, _||_}
+use mathlib.Core.Bool.{Bool, true, false, _&&_, _||_, and-eq-true-iff}
 use mathlib.Core.Logic.{_⊎_, inl, inr}
 use mathlib.Core.List.{List, [], _∷_}
 use Prim.Native.Nat.{ℕ, zero, suc, _+_, _^_, _≤_, _<_, suc-le-suc}
 use native.Mathlib.Nat.{lt-irrefl, add-zero}
 use native.Mathlib.Omega.{arith}
-use borrow.Author.Tests.{eq-eqb, ne-eqb, le-leb, lt-leb}
+use borrow.Author.Tests.{eq-eqb, ne-eqb, le-leb, lt-leb, leb-true}
 use types.Run.{OneOf}
 use lib.Dec.{eqb, leb}
 use lib.ListN.{length, getD, drop, drop-of-length-le, length-drop}
@@ -63,6 +63,9 @@ above lo hi b h = go (leb lo b)
     go : (t : Bool) → t && leb b hi ≡ false
     go true = lt-leb b hi h
     go false = refl
+
+pub between-tells : (lo hi b : ℕ) → between lo hi b ≡ true → (lo ≤ b) × (b ≤ hi)
+between-tells lo hi b e = let x = and-eq-true-iff (leb lo b) (leb b hi) .0 e in (leb-true lo b (x .0), leb-true b hi (x .1))
 
 pub one-of : (ks : Bytes) (x : ℕ) → OneOf ks x → among ks x ≡ true
 one-of [] x h = absurd h

@@ -8,7 +8,7 @@ use lib.ListN.{length, take, drop}
 use Rattle.ascii.specs.Ascii.{Bytes, between}
 use Rattle.json_text.specs.Reader.{got}
 use Rattle.json_text.specs.Lexical.{readString}
-use Rattle.json_text.specs.Places.{readAt}
+use Rattle.json_text.specs.Places.{Peeked, readAt, placeOf}
 use Rattle.json_text.specs.declared.Next.{Next}
 use Rattle.json_text.specs.declared.Next.the-variants.{At, Bad}
 
@@ -19,6 +19,11 @@ isPlain b = not (eqb b (code "\"")) && not (eqb b (code "\\"))
 -- a character of one byte that is not escaped
 unfoldable pub isAsciiChar : ℕ → Bool
 isAsciiChar b = between 0x20 0x7F b && isPlain b
+
+-- a string stands there, and the place behind it; or it may be another one
+pub data AsciiString (s : Bytes) (from : ℕ) : Next → Type 0 where
+  is-short : {j : ℕ} → Peeked s from 34 → At j ≡ placeOf (readAt readString s from) → AsciiString s from (At j)
+  is-unknown : AsciiString s from Bad
 
 -- a place behind the opening quotation mark, in the text
 pub data Within (s : Bytes) (from : ℕ) : Next → Type 0 where

@@ -16,7 +16,7 @@ ghost use Rattle.json_text.specs.Utf8.{encodeUtf8};
 ghost use Rattle.json_text.specs.Lexical.{readChar, readString};
 ghost use Rattle.json_text.specs.Places.{readAt, placeOf, content, contentOf, isText, Holds, Puts, PutsRead};
 
-// More than is held, or a wrong string.
+// A wrong string.
 fn no_text() -> Decoded
     ensures { λ r. ⌜ content r ≡ none ⌝ }
 {

@@ -8,7 +8,7 @@ ghost use mathlib.Core.Path.{_≡_};
 ghost use Rattle.json_text.specs.Reader.{got, many, counted};
 ghost use Rattle.json_text.specs.Lexical.{readChar, readChars, readString};
 ghost use Rattle.json_text.specs.Places.{readAt, placeOf};
-ghost use Rattle.json_text.specs.PlainString.{isAsciiChar, PlainIs};
+ghost use Rattle.json_text.specs.PlainString.{isAsciiChar, AsciiString, PlainIs};
 
 fn skip_char(s: &[u8], from: usize) -> Next
     ensures { λ r. ⌜ r ≡ placeOf (readAt readChar (now (s .entry)) from) ⌝ }
@@ -22,47 +22,16 @@ fn skip_char(s: &[u8], from: usize) -> Next
     skip_unescaped(s, from)
 }
 
-fn is_ascii_char(b: u8) -> bool
-    ensures { λ r. ⌜ r ≡ isAsciiChar b ⌝ }
-{
-    if b < 0x20 {
-        return false;
-    }
-    if 0x7F < b {
-        return false;
-    }
-    if b == 34 {
-        return false;
-    }
-    b != 92
-}
-
-// The place behind the characters of one byte at a place: most of a string, in a short loop.
-fn skip_ascii(s: &[u8], from: usize) -> usize
-    ensures { λ r. ⌜ readAt (many isAsciiChar) (now (s .entry)) from ≡ got tt r ⌝ }
-{
-    let mut i = from;
-    while i < s.len() {
-        if is_ascii_char(s[i]) {
-            i += 1;
-        } else {
-            return i;
-        }
-    }
-    i
-}
-
 // What follows the opening quote.
 fn skip_chars(s: &[u8], from: usize) -> Next
     ensures { λ r. ⌜ r ≡ placeOf (readAt (counted readChars) (now (s .entry)) from) ⌝ }
 {
     let mut i = from;
     loop {
-        let k = skip_ascii(s, i);
-        if byte_at(s, k) == 34 {
-            return Next::At(k + 1);
+        if byte_at(s, i) == 34 {
+            return Next::At(i + 1);
         }
-        let Next::At(j) = skip_char(s, k) else {
+        let Next::At(j) = skip_char(s, i) else {
             return Next::Bad;
         };
         i = j;
@@ -97,6 +66,52 @@ pub fn plain_end(s: &[u8], from: usize) -> Next
             return Next::Bad;
         }
         i += 1;
+    }
+    Next::Bad
+}
+
+// ---- strings of characters of one byte
+
+fn is_ascii_char(b: u8) -> bool
+    ensures { λ r. ⌜ r ≡ isAsciiChar b ⌝ }
+{
+    if b < 0x20 {
+        return false;
+    }
+    if 0x7F < b {
+        return false;
+    }
+    if b == 34 {
+        return false;
+    }
+    b != 92
+}
+
+// The place behind the characters of one byte at a place.
+fn skip_ascii(s: &[u8], from: usize) -> usize
+    ensures { λ r. ⌜ readAt (many isAsciiChar) (now (s .entry)) from ≡ got tt r ⌝ }
+{
+    let mut i = from;
+    while i < s.len() {
+        if is_ascii_char(s[i]) {
+            i += 1;
+        } else {
+            return i;
+        }
+    }
+    i
+}
+
+// The place behind the string at a place, where it has characters of one byte only: a short loop for most strings.
+pub fn skip_ascii_string(s: &[u8], from: usize) -> Next
+    ensures { λ r. ⌜ AsciiString (now (s .entry)) from r ⌝ }
+{
+    if byte_at(s, from) != 34 {
+        return Next::Bad;
+    }
+    let end = skip_ascii(s, from + 1);
+    if byte_at(s, end) == 34 {
+        return Next::At(end + 1);
     }
     Next::Bad
 }

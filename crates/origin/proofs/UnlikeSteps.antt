@@ -1,22 +1,21 @@
 -- A quick test that two identifiers do not match.
 use mathlib.Core.Path.{_≡_, refl, sym, ap, _∙_}
-use mathlib.Core.Bool.{Bool, true, false, _&&_, _||_, not, and-false, and-true}
-use mathlib.Core.List.{List, [], _∷_}
+use mathlib.Core.Bool.{Bool, true, false, _&&_, _||_, not, and-eq-true-iff}
+use mathlib.Core.List.{[], _∷_}
 use mathlib.Core.Option.{Option, none, some}
-use Prim.Native.Nat.{ℕ, zero, suc, _+_, _-_, _≤_, _<_}
+use Prim.Native.Nat.{ℕ, _+_, _-_, _≤_, _<_}
 use native.Mathlib.Numerals.{add-one}
 use native.Mathlib.Omega.{arith}
 use lib.ListN.{length, getD, drop, drop-of-length-le}
 use lib.Seq.{drop-cons}
 use lib.Dec.{eqb}
 use borrow.Author.Tests.{eq-eqb, ne-eqb, eqb-true}
-use Rattle.ascii.specs.Ascii.{Bytes, if_then_else_, _>>=_, isNone, isEmpty, takeWhile, dropWhile, isDigit, isUpper, isLetter, lowerByte, lower, same, sameNoCase, beginsWith, text}
+use Rattle.ascii.specs.Ascii.{Bytes, if_then_else_, _>>=_, isEmpty, takeWhile, dropWhile, isDigit, isUpper, isLetter, lowerByte, lower, same, sameNoCase, beginsWith, text}
 use Rattle.ascii.proofs.Compare.{same-eq}
 use Rattle.ascii.proofs.OptionLaws.{Holds, holds}
 use Rattle.suffix.specs.Host.{isHost, isLabelByte}
 use Rattle.origin.specs.Origin.{Authority, beginsHttps, isPort, readPort, isHostByte, readHost, readHttps, webOrigin}
 use Rattle.origin.specs.Matching.{sameHost, facetMatches}
-use Rattle.origin.proofs.Origins.{both}
 use Rattle.origin.specs.Unlike.{isStop, mayEnd, apart, unlike}
 
 -- ---- the tests of the code
@@ -233,7 +232,7 @@ shape-end (b ∷ r) e = go (eqb b 47) (eqb b 58) e
 shape-colon : (r : Bytes) → beginsWith (text ":") r ≡ true → mayEnd r ≡ true
 unfolding mayEnd beginsWith isStop
 shape-colon [] e = let w : _≡_ {A = ℕ} 0 1 = cc in absurd (omega arith)
-shape-colon (b ∷ r) e = let z : b ≡ 58 = sym (eqb-true 58 b (both (eqb 58 b) true e .0)) in rw z
+shape-colon (b ∷ r) e = let z : b ≡ 58 = sym (eqb-true 58 b (and-eq-true-iff (eqb 58 b) true .0 e .0)) in rw z
 
 port-shape : (h r : Bytes) → Holds (Shape h r) (readPort h r >>= λ a. if isEmpty (a .tail) || same (a .tail) (text "/") then some a else none)
 unfolding readPort

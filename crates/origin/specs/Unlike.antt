@@ -1,5 +1,5 @@
 -- A quick test that two identifiers do not match (proofs/UnlikeSteps.antt: `unlike-none`).
-use mathlib.Core.List.{List, [], _∷_}
+use mathlib.Core.List.{[], _∷_}
 use mathlib.Core.Bool.{Bool, true, _&&_, _||_, not}
 use Prim.Native.Nat.{ℕ}
 use Prim.Native.Char.{code}

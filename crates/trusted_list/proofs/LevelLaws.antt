@@ -11,9 +11,11 @@ use borrow.Author.Tests.{eq-eqb, ne-eqb}
 use Rattle.ascii.specs.Ascii.{Bytes, if_then_else_, _>>=_, _orElse_, isNone, all, same, text}
 use Rattle.json_text.specs.Reader.{Read, got, bad, mapped}
 use Rattle.json_text.specs.Places.{Peeked, readAt, placeOf}
+use Rattle.json_text.specs.PlainString.{AsciiString, is-short, is-unknown}
 use Rattle.json_text.specs.declared.Next.{Next}
 use Rattle.json_text.specs.declared.Next.the-variants.{At, Bad}
 use Rattle.json_text.proofs.Steps.{found, missed}
+use Rattle.json.proofs.Values.{value-string}
 use Rattle.json.specs.Json.{Json, array, object, Jsons, toItems, toMembers, readMember, readValue, valueRead, listed}
 use Rattle.trusted_list.specs.TrustedList.{asObject, asArray, asString, valuesOf, only, once, readNumber16, Version, readVersion, strings, readIds, Listing, readListing, listings, readListings, readList, isWanted, select}
 use Rattle.trusted_list.specs.Slots.{Relates, Extends, Came, Once, never, one, again, Name, Names, slotRead, twoRead, numberSlot, NumberIs, versionSlot, VersionIs, versionOf, idsAt, IdsIs, no-ids, ids-held, isString, stringsSlot, Strings, ListingIs, no-listing, not-wanted, is-wanted, listingOf, Selects, misshapen, nothing, selects, Listings, ListIs, earlier, BodyIs, no-list, list-is}
@@ -155,6 +157,13 @@ module _ (s : Bytes) (at : ℕ) {x : Two} {q : Next} (e : q ≡ placeOf (readAt 
 
         off : (done : List Json) (v : Json) → isString v ≡ false → stringsSlot (done ++ v ∷ []) ≡ Spoiled
         off done v t = unfold stringsSlot in (rw (all-append done v, t, no (all isString done)))
+
+pub ids-item-short : (s : Bytes) (at : ℕ) {x : Two} {q : Next} {j : ℕ} → AsciiString s at q → q ≡ At j → Relates (Extends Strings x) (readAt (readValue 12) s at) (twoRead (Through j x))
+ids-item-short s at {x} {j} A h = go A h
+  where
+    go : {q : Next} → AsciiString s at q → q ≡ At j → Relates (Extends Strings x) (readAt (readValue 12) s at) (twoRead (Through j x))
+    go (is-short {j = k} g e) h = let z : k ≡ j = cc in ids-item-string s at (value-string 12 g refl e) g (ap At z) refl
+    go is-unknown h = let w : _≡_ {A = ℕ} 0 1 = cc in absurd (omega arith)
 
 pub strings-start : Strings [] (record { first = Other; second = Absent })
 unfolding stringsSlot all

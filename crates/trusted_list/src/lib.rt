@@ -191,6 +191,16 @@ fn read_version(s: &[u8], from: usize, major: u16, minor: u16) -> Found
 fn ids_item(s: &[u8], at: usize, two: Two) -> Walked
     ensures { λ r. ⌜ Relates (Extends Strings two) (readAt (readValue 12) (now (s .entry)) at) (twoRead r) ⌝ }
 {
+    let Next::At(j) = json_text::strings::skip_ascii_string(s, at) else {
+        return ids_value(s, at, two);
+    };
+    Walked::Through(j, two)
+}
+
+// Any value.
+fn ids_value(s: &[u8], at: usize, two: Two) -> Walked
+    ensures { λ r. ⌜ Relates (Extends Strings two) (readAt (readValue 12) (now (s .entry)) at) (twoRead r) ⌝ }
+{
     let b = json_text::byte_at(s, at);
     let Next::At(j) = json::skip_value(s, at, 12) else {
         return Walked::Stuck;

@@ -7,17 +7,15 @@ pub ids-item-spec : {M : Type 1} → statement M
 ids-item-spec =
     tie.close
     (tie.spec
-    {- byte-at-requires -}
-    (λ c κs. search fits)
-    {- skip-value-requires -}
+    {- skip-ascii-string-requires -}
     (λ c κs. search fits)
     {- enum-known-j -}
     (λ c. search fits)
     {- enum-told -}
     (λ c. search fits)
+    {- ids-value-requires -}
+    (λ c κs. search fits)
     {- returns -}
     (λ c. search levels)
     {- returns-2 -}
-    (λ c. search levels)
-    {- returns-3 -}
     (λ c. search levels))

@@ -23,11 +23,9 @@ skip-chars-spec =
     μ-loop
     {- loop-holds -}
     (λ c. search string-laws)
-    {- skip-ascii-requires -}
-    (λ c κs. search fits)
     {- byte-at-requires -}
     (λ c κs. search fits)
-    {- add-t8 -}
+    {- add-t7 -}
     (λ c. search fits)
     {- returns -}
     (λ c. search string-laws)
