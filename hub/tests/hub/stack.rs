@@ -113,7 +113,6 @@ fn worst() -> Vec<(&'static str, Case)> {
 
 #[test]
 fn every_call_takes_at_most_64_kib_of_stack() {
-    #[cfg(feature = "cleaning")]
     use facets_hub::{clean, tally};
     use facets_hub::{decision_code, decision_code_with_place, fetch_location, private_label};
     let mut most = [
@@ -121,18 +120,14 @@ fn every_call_takes_at_most_64_kib_of_stack() {
         ("decide", 0),
         ("decide_place", 0),
         ("fetch_location", 0),
-        #[cfg(feature = "cleaning")]
         ("clean", 0),
-        #[cfg(feature = "cleaning")]
         ("tally", 0),
     ];
     let nothing = used(|| ());
     for (name, case) in worst() {
         let Case { caller, appid, record, text, table, .. } = &case;
-        #[cfg(feature = "cleaning")]
         let Case { major, minor, body, .. } = &case;
         let (inputs, mut place) = (case.decision(), 0);
-        #[cfg(feature = "cleaning")]
         let mut out = vec![0; 65_536];
         let unanswered = &record[..64];
         let host = &appid[8..253 + 8];
@@ -141,9 +136,7 @@ fn every_call_takes_at_most_64_kib_of_stack() {
             used(|| decision_code(&inputs)),
             used(|| decision_code_with_place(&inputs, &mut place)),
             used(|| fetch_location(caller, appid, unanswered, text).len()),
-            #[cfg(feature = "cleaning")]
             used(|| clean(appid, *major, *minor, body, table, &mut out)),
-            #[cfg(feature = "cleaning")]
             used(|| tally(appid, *major, *minor, body, table)),
         ];
         println!("stack, {name}: {taken:?} bytes");

@@ -56,7 +56,6 @@ pub fn decision(random: &mut Random, wanted: usize) -> Case {
 }
 
 /// Inputs for cleaning and tally, for the outcome of this place in `CLEANINGS`.
-#[cfg_attr(not(feature = "cleaning"), allow(dead_code))]
 pub fn cleaning(random: &mut Random, wanted: usize) -> Case {
     let plan = Plan { order: &CLEANINGS, wanted };
     let host = host(random);
