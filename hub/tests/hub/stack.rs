@@ -71,7 +71,7 @@ fn used<T>(mut call: impl FnMut() -> T) -> usize {
 }
 
 /// Inputs that go deepest or are longest, each in another way, and the decision they come to.
-fn worst() -> Vec<(&'static str, u16, Case)> {
+fn worst() -> Vec<(String, u16, Case)> {
     let base = || {
         // A host of 253 bytes, an AppID of 2,048, and the same as the Location of 8 redirects.
         let mut appid = format!("https://{}example.com/", "l.".repeat(121)).into_bytes();
@@ -113,7 +113,7 @@ fn worst() -> Vec<(&'static str, u16, Case)> {
     let web = || Case { caller: host.clone().into(), body: body(&[&host, APP]), ..base() };
     // The longest rules there are, deeper than the AppID's label.
     let deepest = format!("{}l.l.example.com\n", "x.".repeat(119));
-    vec![
+    let worst = [
         ("arrays 16 deep", 4, Case { body: member(&arrays(15)), ..base() }),
         ("arrays 17 deep", 110, Case { body: member(&arrays(16)), ..base() }),
         ("arrays 30,000 deep", 110, Case { body: arrays(30_000).into(), ..base() }),
@@ -134,7 +134,38 @@ fn worst() -> Vec<(&'static str, u16, Case)> {
             4,
             Case { table: table_of("x.l.example.com\n"), body: escapes(2), ..base() },
         ),
-    ]
+    ];
+    let nested = nested().into_iter().map(|(name, code, body)| (name, code, Case { body, ..base() }));
+    worst.map(|(name, code, case)| (name.to_owned(), code, case)).into_iter().chain(nested).collect()
+}
+
+/// Bodies with 16 and 17 arrays or objects open together, in every place of a list, with any value inside.
+fn nested() -> Vec<(String, u16, Vec<u8>)> {
+    // What stands before and after, and how many are open there.
+    let places = [
+        ("the body", "", "", 0),
+        ("a member", r#"{"x":"#, r#","trustedFacets":[]}"#, 1),
+        ("trustedFacets", r#"{"trustedFacets":"#, "}", 1),
+        ("an object", r#"{"trustedFacets":["#, "]}", 2),
+        ("version", r#"{"trustedFacets":[{"version":"#, r#","ids":[]}]}"#, 3),
+        ("major", r#"{"trustedFacets":[{"version":{"major":"#, r#","minor":0},"ids":[]}]}"#, 4),
+        ("ids", r#"{"trustedFacets":[{"version":{"major":1,"minor":0},"ids":"#, "}]}", 3),
+        ("an entry", r#"{"trustedFacets":[{"version":{"major":1,"minor":0},"ids":["#, "]}]}", 4),
+    ];
+    let values = [r#""\uD83D\uDD11""#, "-1.5e-10", "false", "[]"];
+    let mut bodies = Vec::new();
+    for (place, before, after, open) in places {
+        for (start, end) in [("[", "]"), (r#"{"\uD83D\uDD11":"#, "}")] {
+            for (inner, depth) in values.into_iter().flat_map(|inner| [(inner, 16), (inner, 17)]) {
+                let levels = depth - open - usize::from(inner == "[]");
+                let value = start.repeat(levels) + inner + &end.repeat(levels);
+                let code = if depth == 17 { 110 } else { 111 + u16::from(place == "a member") };
+                let name = format!("{depth} deep by {start}..{end} for {place}, {inner} inside");
+                bodies.push((name, code, format!("{before}{value}{after}").into_bytes()));
+            }
+        }
+    }
+    bodies
 }
 
 #[test]
@@ -149,8 +180,10 @@ fn every_call_takes_at_most_64_kib_of_stack() {
         ("facets_tally", 0),
     ];
     let nothing = used(|| ());
-    println!("bytes of stack, in the order {:?}:", most.map(|call| call.0));
-    for (name, code, case) in worst() {
+    let worst = worst();
+    println!("stack with {} inputs; those that took more of it than any before, in bytes,", worst.len());
+    println!("by {:?}:", most.map(|call| call.0));
+    for (name, code, case) in worst {
         let Case { caller, appid, major, minor, record, text, body, table } = &case;
         let (inputs, mut place) = (case.decision(), 0);
         assert_eq!(decision_code(&inputs), code, "{name}");
@@ -165,7 +198,9 @@ fn every_call_takes_at_most_64_kib_of_stack() {
             used(|| clean(appid, *major, *minor, body, table, &mut out)),
             used(|| tally(appid, *major, *minor, body, table)),
         ];
-        println!("    {name}: {taken:?}");
+        if taken.iter().zip(&most).any(|(taken, most)| *taken > most.1) {
+            println!("    {name}: {taken:?}");
+        }
         for (most, taken) in most.iter_mut().zip(taken) {
             most.1 = most.1.max(taken);
         }
