@@ -28,19 +28,26 @@ enum Output {
     Short,
     Exact,
     Longer,
+    /// One byte less than the body has.
+    LessThanBody,
+    /// As long as the body, by which a list always fits.
+    AsBody,
 }
 
 /// An output of any bytes, its length chosen by the length of the list, where there is one.
 fn output(random: &mut Random, inputs: &Inputs) -> (Output, Vec<u8>) {
-    use Output::{Empty, Exact, Longer, OneByteShort, Short};
+    use Output::{AsBody, Empty, Exact, LessThanBody, Longer, OneByteShort, Short};
     let list = inputs.list().map_or(60, |list| list.len());
-    let output = [Empty, OneByteShort, Short, Exact, Exact, Longer, Longer, Longer][random.below(8)];
+    let output =
+        [Empty, OneByteShort, Short, Exact, Exact, Longer, Longer, LessThanBody, AsBody][random.below(9)];
     let length = match output {
         Empty => 0,
         OneByteShort => list - 1,
         Short => random.below(list),
         Exact => list,
         Longer => list + 1 + random.below(40),
+        LessThanBody => inputs.body.len().saturating_sub(1),
+        AsBody => inputs.body.len(),
     };
     (output, (0..length).map(|_| random.next() as u8).collect())
 }
@@ -89,8 +96,10 @@ fn generated_cleanings_and_tallies_beside_the_model() {
     println!("{ROUNDS} generated cleanings, by refusal and output: {cleanings:?}");
     println!("{ROUNDS} generated tallies, by refusal: {tallies:?}; kept and causes 1 to 4: {counts:?}");
     println!("{empty} empty lists cleaned; {deep} entries end in the AppID's label and have another by a deeper rule");
-    // Refusals 2, 3, 9 to 13; 15 into three kinds of output and success into two.
-    assert_eq!(cleanings.len(), 7 + 3 + 2);
+    // A list that is as long as its body is rare.
+    cleanings.remove(&(15, Some(Output::LessThanBody)));
+    // Refusals 2, 3, 9 to 13; 15 into three kinds of output and success into four.
+    assert_eq!(cleanings.len(), 7 + 3 + 4);
     assert_eq!(tallies.len(), 7 + 1);
     let all = cleanings.values().chain(tallies.values()).copied().chain(counts.map(|count| count as usize));
     let all = all.chain([empty, deep]);

@@ -123,7 +123,15 @@ fn discarded_entries_and_all_else_in_a_body_change_nothing() {
         decide_alike(&one, &other, &callers, &mut codes);
 
         let length = one.cleaning().list().map_or(50, |list| list.len());
-        let lengths = [0, length - 1, length, length + 1 + random.below(60)];
+        let lengths = [
+            0,
+            length - 1,
+            length,
+            length + 1 + random.below(60),
+            // Long enough by the one body, by the other or by both.
+            one.body.len().min(other.body.len()),
+            one.body.len().max(other.body.len()),
+        ];
         refused_cleanings += clean_alike(&mut random, &one, &other, &lengths);
         cleanings += lengths.len();
 
