@@ -15,21 +15,22 @@ use Rattle.origin.specs.Origin.{normalForm}
 use Rattle.origin.proofs.NormalForms.{normal-short}
 use Rattle.json_text.specs.Reader.{got}
 use Rattle.json_text.specs.Lexical.{readString}
-use Rattle.json_text.specs.Places.{readAt, placeOf, fit, content, contentOf, Holds}
+use Rattle.json_text.specs.Places.{readAt, placeOf, contentOf, Holds}
+use Rattle.json_text.specs.PlainString.{PlainIs}
 use Rattle.json_text.specs.declared.Next.{Next}
 use Rattle.json_text.specs.declared.Next.the-variants.{At, Bad}
-use Rattle.json_text.specs.declared.Decoded.{Decoded}
 use Rattle.json_text.specs.declared.Text.{Text}
 use Rattle.trusted_list.specs.Entries.{firstEntry, nextEntry, Coming}
 use Rattle.trusted_list.proofs.EntryLaws.{entries-come}
-use Rattle.causes.specs.Causes.{Cause, tooLong, otherScheme, notFacet, otherLabel, cause, kept}
-use Rattle.causes.specs.Owner.{Owns, JudgesHeld, causeOf}
+use Rattle.causes.specs.Causes.{tooLong, cause, kept}
+use Rattle.causes.specs.Owner.{Owns, Judges, causeOf}
 use Rattle.causes.specs.declared.Verdict.{Verdict}
-use Rattle.causes.specs.declared.Verdict.the-variants.{Kept, TooLong, OtherScheme, NotFacet, OtherLabel}
+use Rattle.causes.specs.declared.Verdict.the-variants.{Kept}
 use Rattle.decision.specs.Meaning.{Owned, IdsThere, entriesAt}
-use Rattle.decision.proofs.EntrySteps.{Spans, Comes, fit-is, kept-short, string-spans, next-ahead, comes-at, nothing-comes, entries-at, kept-step, end-is, held-is, kept-is}
+use Rattle.decision.proofs.EntrySteps.{Spans, Comes, string-spans, next-ahead, comes-at, nothing-comes, entries-at, kept-step, no-string, end-is, held-entry, long-dropped, over-dropped}
+use Rattle.decision.proofs.PlainEntry.{plain-ends, plain-is, keeps, judged}
 use Rattle.cleaning.specs.Clean.{quoted}
-use Rattle.cleaning.specs.Meaning.{names, opening, idText, idsText, HeldLength, Adds, adds-it, adds-none, SizedIs, Small, no-size, small-size}
+use Rattle.cleaning.specs.Meaning.{names, opening, idText, idsText, Adds, adds-it, adds-none, SizedPart, SizedIs, Small, no-size, small-size}
 use Rattle.cleaning.specs.declared.Sized.{Sized}
 use Rattle.cleaning.specs.declared.Sized.the-variants.{Wrong, Goes}
 
@@ -63,105 +64,61 @@ names-dropped appid table e es h = ap (map normalForm) (kept-step e appid table 
 
 -- ---- one entry
 
-module _ (d : Decoded) where
-  none-length : content d ≡ none → HeldLength (content d) 0
-  none-length c = record { small = omega arith; is = λ e l h. let x : none ≡ some e = sym c ∙ h ∙ fit-is e l in let z : _≡_ {A = ℕ} 0 1 = cc in absurd (omega arith) }
-
-  pub length-long : d .long ≡ true → HeldLength (content d) 0
-  length-long h = none-length (go h)
-    where
-      go : d .long ≡ true → content d ≡ none
-      go h = unfold content in (rw h)
-
-  module _ (h : d .long ≡ false) where
-    pub length-over : 512 < d .len → HeldLength (content d) 0
-    length-over k = none-length (go h k)
-      where
-        go : d .long ≡ false → 512 < d .len → content d ≡ none
-        go h k = unfold content in (rw (h, lt-ltb 512 (d .len) k))
-
-    module _ (k : d .len ≤ 512) (w : length (d .bytes) ≡ 512) where
-      pub length-part : d .len ≤ length (d .bytes)
-      length-part = omega arith
-
-      pub length-held : {r : ℕ} → r ≡ length (normalForm (take (d .len - 0) (drop 0 (d .bytes)))) → HeldLength (content d) r
-      length-held {r} e = record {
-        small = omega (arith, normal-short (take (d .len) (d .bytes)), length-take (d .len) (d .bytes), e ∙ ap (λ (x : Bytes). length (normalForm x)) zero-part);
-        is = λ x l f. e ∙ ap (λ (y : Bytes). length (normalForm y)) (zero-part ∙ is-entry x (sym (is-content h k) ∙ f ∙ fit-is x l));
-      }
-        where
-          zero-part : take (d .len - 0) (drop 0 (d .bytes)) ≡ take (d .len) (d .bytes)
-          zero-part = let z : d .len - 0 ≡ d .len = omega arith in rw z
-
-          is-content : d .long ≡ false → d .len ≤ 512 → content d ≡ some (take (d .len) (d .bytes))
-          is-content h k = unfold content in (rw (h, le-ltb 512 (d .len) k))
-
-          is-entry : (x : Bytes) → some (take (d .len) (d .bytes)) ≡ some x → take (d .len) (d .bytes) ≡ x
-          is-entry x f = cc
-
 pub small-wrong : Small Wrong
 small-wrong = no-size
 
-pub small-first : (j : ℕ) {held : Option Bytes} {n : ℕ} → HeldLength held n → Small (Goes j (n + 2))
-small-first j {n} L = small-size {k = n + 2} (omega (arith, L .small))
+pub small-goes : (j : ℕ) → Small (Goes j 0)
+small-goes j = small-size {k = 0} (omega arith)
 
-pub small-later : (j : ℕ) {held : Option Bytes} {n : ℕ} → HeldLength held n → Small (Goes j (n + 3))
-small-later j {n} L = small-size {k = n + 3} (omega (arith, L .small))
+module _ (first : Bool) (table label : Bytes) (deeper : Bool) (e : Bytes) (end : ℕ) where
+  pub sized-over : 512 < length e → SizedPart first table label deeper e end (Goes end 0)
+  sized-over h = record { is = λ appid O. adds-none (too-long appid (lt-ltb 512 (length e) h)) }
+    where
+      too-long : (appid : Bytes) → ltb 512 (length e) ≡ true → isNone (cause appid table e) ≡ false
+      too-long appid t = unfold cause in (rw t)
 
-pub small-goes : (j k : ℕ) → k ≤ 515 → Small (Goes j k)
-small-goes j k h = small-size h
+  module _ {v : Verdict} (J : Judges table label deeper e v) where
+    module _ (h : v ≡ Kept) {n : ℕ} (l : n ≡ length (normalForm e)) where
+      pub sized-first : first ≡ true → SizedPart first table label deeper e end (Goes end (n + 2))
+      sized-first t = let z : n + 2 ≡ length (idText first (normalForm e)) = rw (id-length first (normalForm e), t) (omega arith) in rw z (record { is = λ appid O. adds-it (judged appid J (keeps h) O) })
+
+      pub sized-later : first ≡ false → SizedPart first table label deeper e end (Goes end (n + 3))
+      sized-later t = let z : n + 3 ≡ length (idText first (normalForm e)) = rw (id-length first (normalForm e), t) (omega arith) in rw z (record { is = λ appid O. adds-it (judged appid J (keeps h) O) })
+
+    pub sized-dropped : isNone (causeOf v) ≡ false → SizedPart first table label deeper e end (Goes end 0)
+    sized-dropped g = record { is = λ appid O. adds-none (judged appid J g O) }
+
+module _ (e : Bytes) (h : length e ≤ 512) {n : ℕ} (l : n ≡ length (normalForm e)) where
+  pub fits-first : Fits w64 (n + 2)
+  fits-first = record { fits = omega (arith, normal-short e) }
+
+  pub fits-later : Fits w64 (n + 3)
+  fits-later = record { fits = omega (arith, normal-short e) }
+
+  pub small-first : (end : ℕ) → Small (Goes end (n + 2))
+  small-first end = small-size {k = n + 2} (omega (arith, normal-short e))
+
+  pub small-later : (end : ℕ) → Small (Goes end (n + 3))
+  small-later end = small-size {k = n + 3} (omega (arith, normal-short e))
 
 module _ (first : Bool) (table label : Bytes) (deeper : Bool) (s : Bytes) (at : ℕ) {t : Text} (H : Holds (contentOf (readAt readString s at)) (placeOf (readAt readString s at)) t) where
   pub sized-wrong : t .end ≡ Bad → SizedIs first table label deeper s at Wrong
-  sized-wrong b = record { is = λ appid e j O f. absurd (apart e j f) }
-    where
-      apart : (e : Bytes) (j : ℕ) → readAt readString s at ≡ got e j → ⊥
-      apart e j f = unfold placeOf in (let x : Bad ≡ At j = sym b ∙ H .end-is ∙ rw f in let z : _≡_ {A = ℕ} 0 1 = cc in omega arith)
+  sized-wrong b = record { is = λ appid e j O f. absurd (no-string [] table label deeper s at H b e j f) }
 
-  module _ {j : ℕ} (p : t .end ≡ At j) {v : Verdict} (J : JudgesHeld table label deeper (content (t .decoded)) v) where
-    module _ (h : v ≡ Kept) {n : ℕ} (L : HeldLength (content (t .decoded)) n) where
-      name-length : (appid e : Bytes) (k : ℕ) → Owns appid table label deeper → readAt readString s at ≡ got e k → n ≡ length (normalForm e)
-      name-length appid e k O f =
-          L .is e (kept-short appid table e (kept-is [] table label deeper s at H p J h appid e k O f)) (held-is [] table label deeper s at H p e k f)
+  module _ {j : ℕ} (p : t .end ≡ At j) where
+    pub sized-long : t .decoded .long ≡ true → SizedIs first table label deeper s at (Goes j 0)
+    sized-long h = record { is = λ appid e k O f. rw (end-is [] table label deeper s at H p e k f) (adds-none (long-dropped [] table label deeper s at H p h appid e k O f)) }
 
-      goes-kept : (m : ℕ) → ((e : Bytes) → n ≡ length (normalForm e) → m ≡ length (idText first (normalForm e))) → SizedIs first table label deeper s at (Goes j m)
-      goes-kept m g = record {
-        is = λ appid e k O f.
-            rw (end-is [] table label deeper s at H p e k f, g e (name-length appid e k O f)) (adds-it (ap isNone (sym (kept-is [] table label deeper s at H p J h appid e k O f))));
-      }
+    module _ (h : t .decoded .long ≡ false) where
+      pub sized-more : 512 < t .decoded .len → SizedIs first table label deeper s at (Goes j 0)
+      sized-more l = record { is = λ appid e k O f. rw (end-is [] table label deeper s at H p e k f) (adds-none (over-dropped [] table label deeper s at H p h l appid e k O f)) }
 
-      pub sized-first : first ≡ true → SizedIs first table label deeper s at (Goes j (n + 2))
-      sized-first t = goes-kept (n + 2) λ e w. rw (id-length first (normalForm e), t) (omega arith)
+      pub sized-held : {r : Sized} → t .decoded .len ≤ 512 → SizedPart first table label deeper (take (t .decoded .len - 0) (drop 0 (t .decoded .bytes))) j r → SizedIs first table label deeper s at r
+      sized-held l P = record { is = λ appid e k O f. rw (end-is [] table label deeper s at H p e k f, held-entry [] table label deeper s at H p h l e k f) at (P .is appid O) }
 
-      pub sized-later : first ≡ false → SizedIs first table label deeper s at (Goes j (n + 3))
-      sized-later t = goes-kept (n + 3) λ e w. rw (id-length first (normalForm e), t) (omega arith)
-
-    dropped : {c : Cause} → causeOf v ≡ some c → SizedIs first table label deeper s at (Goes j 0)
-    dropped g = record { is = λ appid e k O f. rw (end-is [] table label deeper s at H p e k f) (adds-none (ap isNone (sym (J .is appid e O (held-is [] table label deeper s at H p e k f)) ∙ g))) }
-
-    pub sized-long : v ≡ TooLong → SizedIs first table label deeper s at (Goes j 0)
-    sized-long h = dropped (go h)
-      where
-        go : v ≡ TooLong → causeOf v ≡ some tooLong
-        go h = unfold causeOf in (rw h)
-
-    pub sized-scheme : v ≡ OtherScheme → SizedIs first table label deeper s at (Goes j 0)
-    sized-scheme h = dropped (go h)
-      where
-        go : v ≡ OtherScheme → causeOf v ≡ some otherScheme
-        go h = unfold causeOf in (rw h)
-
-    pub sized-facet : v ≡ NotFacet → SizedIs first table label deeper s at (Goes j 0)
-    sized-facet h = dropped (go h)
-      where
-        go : v ≡ NotFacet → causeOf v ≡ some notFacet
-        go h = unfold causeOf in (rw h)
-
-    pub sized-label : v ≡ OtherLabel → SizedIs first table label deeper s at (Goes j 0)
-    sized-label h = dropped (go h)
-      where
-        go : v ≡ OtherLabel → causeOf v ≡ some otherLabel
-        go h = unfold causeOf in (rw h)
+pub sized-plain : {s : Bytes} {at : ℕ} {r : Next} {q : ℕ} {first : Bool} {table label : Bytes} {deeper : Bool} {x : Sized} → PlainIs s at r → r ≡ At q
+    → SizedPart first table label deeper (take (q - (at + 1)) (drop (at + 1) s)) (q + 1) x → SizedIs first table label deeper s at x
+sized-plain P h I = record { is = λ appid e k O f. rw (plain-ends P h e k f, plain-is P h e k f) (I .is appid O) }
 
 -- ---- the loop
 

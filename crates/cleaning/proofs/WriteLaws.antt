@@ -16,20 +16,21 @@ use Rattle.origin.specs.Parts.{writtenAt, behind, Wrote}
 use Rattle.origin.proofs.Writings.{wrote-place, wrote-length, wrote-then}
 use Rattle.json_text.specs.Reader.{got}
 use Rattle.json_text.specs.Lexical.{readString}
-use Rattle.json_text.specs.Places.{readAt, placeOf, fit, content, contentOf, Holds}
+use Rattle.json_text.specs.Places.{readAt, placeOf, contentOf, Holds}
+use Rattle.json_text.specs.PlainString.{PlainIs}
 use Rattle.json_text.specs.declared.Next.{Next}
 use Rattle.json_text.specs.declared.Next.the-variants.{At, Bad}
-use Rattle.json_text.specs.declared.Decoded.{Decoded}
 use Rattle.json_text.specs.declared.Text.{Text}
 use Rattle.trusted_list.specs.Entries.{firstEntry, nextEntry, Coming}
 use Rattle.trusted_list.proofs.EntryLaws.{entries-come}
-use Rattle.causes.specs.Causes.{Cause, tooLong, otherScheme, notFacet, otherLabel, cause}
-use Rattle.causes.specs.Owner.{Owns, JudgesHeld, causeOf}
+use Rattle.causes.specs.Causes.{cause}
+use Rattle.causes.specs.Owner.{Owns, Judges, causeOf}
 use Rattle.causes.specs.declared.Verdict.{Verdict}
-use Rattle.causes.specs.declared.Verdict.the-variants.{Kept, TooLong, OtherScheme, NotFacet, OtherLabel}
+use Rattle.causes.specs.declared.Verdict.the-variants.{Kept}
 use Rattle.decision.specs.Meaning.{Owned, IdsThere, entriesAt}
-use Rattle.decision.proofs.EntrySteps.{Spans, Comes, fit-is, kept-short, string-spans, next-ahead, comes-at, nothing-comes, entries-at, end-is, held-is, kept-is}
-use Rattle.cleaning.specs.Meaning.{names, opening, idText, idsText, HeldWrote, Puts, puts-it, puts-none, PutIs}
+use Rattle.decision.proofs.EntrySteps.{Spans, Comes, string-spans, next-ahead, comes-at, nothing-comes, entries-at, no-string, end-is, held-entry, long-dropped, over-dropped}
+use Rattle.decision.proofs.PlainEntry.{plain-ends, plain-is, keeps, judged}
+use Rattle.cleaning.specs.Meaning.{names, opening, idText, idsText, IdWrote, Puts, puts-it, puts-none, PutPart, PutIs}
 use Rattle.cleaning.specs.declared.Put.{Put}
 use Rattle.cleaning.specs.declared.Put.the-variants.{Stuck, Moves}
 use Rattle.cleaning.proofs.SizeLaws.{ids-more, ids-none, id-length, no-names, names-kept, names-dropped}
@@ -45,95 +46,49 @@ module _ (first : Bool) {at r : ℕ} {o o₁ : Bytes} where
   unfolding opening
   opening-later h W = rw h W
 
-module _ (first : Bool) (d : Decoded) (at : ℕ) (o : Bytes) where
-  none-wrote : content d ≡ none → HeldWrote first (content d) at o o at
-  none-wrote c = record { is = λ e l h m. let x : none ≡ some e = sym c ∙ h ∙ fit-is e l in let z : _≡_ {A = ℕ} 0 1 = cc in absurd (omega arith) }
+pub id-wrote : (first : Bool) (e : Bytes) (at : ℕ) (o : Bytes) {o₁ o₂ o₃ : Bytes} {a b r : ℕ} → Wrote (opening first) at o o₁ a → Wrote (normalForm e) a o₁ o₂ b → Wrote (34 ∷ []) b o₂ o₃ r
+    → IdWrote first e at o o₃ r
+id-wrote first e at o {o₁} {o₂} {o₃} {a} {b} {r} W U Z = record { is = go }
+  where
+    in-order : (opening first ++ normalForm e) ++ 34 ∷ [] ≡ idText first (normalForm e)
+    in-order = unfold idText in refl
 
-  pub wrote-long : d .long ≡ true → HeldWrote first (content d) at o o at
-  wrote-long h = none-wrote (go h)
-    where
-      go : d .long ≡ true → content d ≡ none
-      go h = unfold content in (rw h)
-
-  module _ (h : d .long ≡ false) where
-    pub wrote-over : 512 < d .len → HeldWrote first (content d) at o o at
-    wrote-over k = none-wrote (go h k)
-      where
-        go : d .long ≡ false → 512 < d .len → content d ≡ none
-        go h k = unfold content in (rw (h, lt-ltb 512 (d .len) k))
-
-    module _ (k : d .len ≤ 512) where
-      pub wrote-part : length (d .bytes) ≡ 512 → d .len ≤ length (d .bytes)
-      wrote-part w = omega arith
-
-      pub wrote-held : {o₁ o₂ o₃ : Bytes} {a b r : ℕ} → Wrote (opening first) at o o₁ a → Wrote (normalForm (take (d .len - 0) (drop 0 (d .bytes)))) a o₁ o₂ b → Wrote (34 ∷ []) b o₂ o₃ r
-          → HeldWrote first (content d) at o o₃ r
-      wrote-held {o₁} {o₂} {o₃} {a} {b} {r} W U Z = record { is = λ e l f m. go e (zero-part ∙ is-entry e (sym (is-content h k) ∙ f ∙ fit-is e l)) m }
-        where
-          zero-part : take (d .len - 0) (drop 0 (d .bytes)) ≡ take (d .len) (d .bytes)
-          zero-part = let z : d .len - 0 ≡ d .len = omega arith in rw z
-
-          is-content : d .long ≡ false → d .len ≤ 512 → content d ≡ some (take (d .len) (d .bytes))
-          is-content h k = unfold content in (rw (h, le-ltb 512 (d .len) k))
-
-          is-entry : (x : Bytes) → some (take (d .len) (d .bytes)) ≡ some x → take (d .len) (d .bytes) ≡ x
-          is-entry x f = cc
-
-          in-order : (x : Bytes) → (opening first ++ x) ++ 34 ∷ [] ≡ idText first x
-          in-order x = unfold idText in refl
-
-          go : (e : Bytes) → take (d .len - 0) (drop 0 (d .bytes)) ≡ e → at + length (idText first (normalForm e)) ≤ length o → Wrote (idText first (normalForm e)) at o o₃ r
-          go e f m =
-              let n : length (idText first (normalForm e)) ≡ length (opening first) + length (normalForm e) + 1 =
-              omega (arith, ap length (in-order (normalForm e)), length-append (opening first ++ normalForm e) (34 ∷ []), length-append (opening first) (normalForm e)) in
-              let X : Wrote (normalForm e) a o₁ o₂ b = rw f at U in
-              let Y : Wrote (opening first ++ normalForm e) at o o₂ b = wrote-then W X (omega arith) in
-              let V′ : Wrote ((opening first ++ normalForm e) ++ 34 ∷ []) at o o₃ r = wrote-then Y Z (omega (arith, length-append (opening first) (normalForm e))) in
-              rw (← in-order (normalForm e)) V′
+    go : at + length (idText first (normalForm e)) ≤ length o → Wrote (idText first (normalForm e)) at o o₃ r
+    go m =
+        let n : length (idText first (normalForm e)) ≡ length (opening first) + length (normalForm e) + 1 =
+        omega (arith, ap length in-order, length-append (opening first ++ normalForm e) (34 ∷ []), length-append (opening first) (normalForm e)) in
+        let Y : Wrote (opening first ++ normalForm e) at o o₂ b = wrote-then W U (omega arith) in
+        let X : Wrote ((opening first ++ normalForm e) ++ 34 ∷ []) at o o₃ r = wrote-then Y Z (omega (arith, length-append (opening first) (normalForm e))) in
+        rw (← in-order) X
 
 -- ---- one entry
 
+module _ (first : Bool) (table label : Bytes) (deeper : Bool) (e : Bytes) (end to : ℕ) (o : Bytes) {v : Verdict} (J : Judges table label deeper e v) where
+  pub put-kept : {o₁ : Bytes} {m : ℕ} → v ≡ Kept → IdWrote first e to o o₁ m → PutPart first table label deeper e end to o o₁ (Moves end m)
+  put-kept {o₁} {m} h W = record { is = λ appid O. puts-it {m = m} (judged appid J (keeps h) O) (W .is) }
+
+  pub put-dropped : isNone (causeOf v) ≡ false → PutPart first table label deeper e end to o o (Moves end to)
+  put-dropped g = record { is = λ appid O. puts-none (judged appid J g O) refl }
+
 module _ (first : Bool) (table label : Bytes) (deeper : Bool) (s : Bytes) (at to : ℕ) (o : Bytes) {t : Text} (H : Holds (contentOf (readAt readString s at)) (placeOf (readAt readString s at)) t) where
   pub put-wrong : t .end ≡ Bad → PutIs first table label deeper s at to o o Stuck
-  put-wrong b = record { is = λ appid e j O f. absurd (apart e j f) }
-    where
-      apart : (e : Bytes) (j : ℕ) → readAt readString s at ≡ got e j → ⊥
-      apart e j f = unfold placeOf in (let x : Bad ≡ At j = sym b ∙ H .end-is ∙ rw f in let z : _≡_ {A = ℕ} 0 1 = cc in omega arith)
+  put-wrong b = record { is = λ appid e j O f. absurd (no-string [] table label deeper s at H b e j f) }
 
-  module _ {j : ℕ} (p : t .end ≡ At j) {v : Verdict} (J : JudgesHeld table label deeper (content (t .decoded)) v) where
-    pub put-kept : {o₁ : Bytes} {m : ℕ} → v ≡ Kept → HeldWrote first (content (t .decoded)) to o o₁ m → PutIs first table label deeper s at to o o₁ (Moves j m)
-    put-kept {o₁} {m} h W = record {
-      is = λ appid e k O f.
-          let K = kept-is [] table label deeper s at H p J h appid e k O f in
-          rw (end-is [] table label deeper s at H p e k f) (puts-it {m = m} (ap isNone (sym K)) (W .is e (kept-short appid table e K) (held-is [] table label deeper s at H p e k f)));
-    }
+  module _ {j : ℕ} (p : t .end ≡ At j) where
+    pub put-long : t .decoded .long ≡ true → PutIs first table label deeper s at to o o (Moves j to)
+    put-long h = record { is = λ appid e k O f. rw (end-is [] table label deeper s at H p e k f) (puts-none (long-dropped [] table label deeper s at H p h appid e k O f) refl) }
 
-    dropped : {c : Cause} → causeOf v ≡ some c → PutIs first table label deeper s at to o o (Moves j to)
-    dropped g = record { is = λ appid e k O f. rw (end-is [] table label deeper s at H p e k f) (puts-none (ap isNone (sym (J .is appid e O (held-is [] table label deeper s at H p e k f)) ∙ g)) refl) }
+    module _ (h : t .decoded .long ≡ false) where
+      pub put-more : 512 < t .decoded .len → PutIs first table label deeper s at to o o (Moves j to)
+      put-more l = record { is = λ appid e k O f. rw (end-is [] table label deeper s at H p e k f) (puts-none (over-dropped [] table label deeper s at H p h l appid e k O f) refl) }
 
-    pub put-long : v ≡ TooLong → PutIs first table label deeper s at to o o (Moves j to)
-    put-long h = dropped (go h)
-      where
-        go : v ≡ TooLong → causeOf v ≡ some tooLong
-        go h = unfold causeOf in (rw h)
+      pub put-held : {o₁ : Bytes} {r : Put} → t .decoded .len ≤ 512 → PutPart first table label deeper (take (t .decoded .len - 0) (drop 0 (t .decoded .bytes))) j to o o₁ r
+          → PutIs first table label deeper s at to o o₁ r
+      put-held l P = record { is = λ appid e k O f. rw (end-is [] table label deeper s at H p e k f, held-entry [] table label deeper s at H p h l e k f) at (P .is appid O) }
 
-    pub put-scheme : v ≡ OtherScheme → PutIs first table label deeper s at to o o (Moves j to)
-    put-scheme h = dropped (go h)
-      where
-        go : v ≡ OtherScheme → causeOf v ≡ some otherScheme
-        go h = unfold causeOf in (rw h)
-
-    pub put-facet : v ≡ NotFacet → PutIs first table label deeper s at to o o (Moves j to)
-    put-facet h = dropped (go h)
-      where
-        go : v ≡ NotFacet → causeOf v ≡ some notFacet
-        go h = unfold causeOf in (rw h)
-
-    pub put-label : v ≡ OtherLabel → PutIs first table label deeper s at to o o (Moves j to)
-    put-label h = dropped (go h)
-      where
-        go : v ≡ OtherLabel → causeOf v ≡ some otherLabel
-        go h = unfold causeOf in (rw h)
+pub put-plain : {s : Bytes} {at to : ℕ} {o o₁ : Bytes} {r : Next} {q : ℕ} {first : Bool} {table label : Bytes} {deeper : Bool} {x : Put} → PlainIs s at r → r ≡ At q
+    → PutPart first table label deeper (take (q - (at + 1)) (drop (at + 1) s)) (q + 1) to o o₁ x → PutIs first table label deeper s at to o o₁ x
+put-plain P h I = record { is = λ appid e k O f. rw (plain-ends P h e k f, plain-is P h e k f) (I .is appid O) }
 
 -- ---- the loop
 

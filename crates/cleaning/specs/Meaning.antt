@@ -12,7 +12,7 @@ use Rattle.origin.specs.Origin.{normalForm}
 use Rattle.origin.specs.Parts.{Wrote}
 use Rattle.json_text.specs.Reader.{got}
 use Rattle.json_text.specs.Lexical.{readString}
-use Rattle.json_text.specs.Places.{readAt, fit}
+use Rattle.json_text.specs.Places.{readAt}
 use Rattle.causes.specs.Causes.{cause, kept}
 use Rattle.causes.specs.Owner.{Owns}
 use Rattle.decision.specs.Meaning.{Owned, IdsThere, entriesAt}
@@ -65,16 +65,16 @@ idsText false xs = prefixed (code ",") (map quoted xs)
 
 -- ---- one entry
 
--- the length of the normal form of an entry of which at most 512 bytes are held
-pub record HeldLength (held : Option Bytes) (r : ℕ) : Type 0 where
-  pub small : r ≤ 512
-  pub is : (entry : Bytes) → length entry ≤ 512 → held ≡ fit entry → r ≡ length (normalForm entry)
-
 -- a kept entry adds the length of its id; another adds nothing
 pub data Adds (first : Bool) (appid table entry : Bytes) (end : ℕ) : Sized → Type 0 where
   adds-it : isNone (cause appid table entry) ≡ true → Adds first appid table entry end (Goes end (length (idText first (normalForm entry))))
   adds-none : isNone (cause appid table entry) ≡ false → Adds first appid table entry end (Goes end 0)
 
+-- the entry itself, for every AppID with this label
+pub record SizedPart (first : Bool) (table label : Bytes) (deeper : Bool) (entry : Bytes) (end : ℕ) (r : Sized) : Type 0 where
+  pub is : (appid : Bytes) → Owns appid table label deeper → Adds first appid table entry end r
+
+-- the entry at a place
 pub record SizedIs (first : Bool) (table label : Bytes) (deeper : Bool) (body : Bytes) (at : ℕ) (r : Sized) : Type 0 where
   pub is : (appid entry : Bytes) (end : ℕ) → Owns appid table label deeper → readAt readString body at ≡ got entry end → Adds first appid table entry end r
 
@@ -84,15 +84,18 @@ pub data Small : Sized → Type 0 where
 
 -- ---- writing
 
--- the id of an entry of which at most 512 bytes are held is written, where there is room for it
-pub record HeldWrote (first : Bool) (held : Option Bytes) (at : ℕ) (before after : Bytes) (r : ℕ) : Type 0 where
-  pub is : (entry : Bytes) → length entry ≤ 512 → held ≡ fit entry → at + length (idText first (normalForm entry)) ≤ length before → Wrote (idText first (normalForm entry)) at before after r
+-- an entry's id is written, where there is room for it
+pub record IdWrote (first : Bool) (entry : Bytes) (at : ℕ) (before after : Bytes) (r : ℕ) : Type 0 where
+  pub is : at + length (idText first (normalForm entry)) ≤ length before → Wrote (idText first (normalForm entry)) at before after r
 
 -- a kept entry's id is written, and another entry changes nothing
 pub data Puts (first : Bool) (appid table entry : Bytes) (end to : ℕ) (before after : Bytes) : Put → Type 0 where
   puts-it : {m : ℕ} → isNone (cause appid table entry) ≡ true
       → (to + length (idText first (normalForm entry)) ≤ length before → Wrote (idText first (normalForm entry)) to before after m) → Puts first appid table entry end to before after (Moves end m)
   puts-none : isNone (cause appid table entry) ≡ false → after ≡ before → Puts first appid table entry end to before after (Moves end to)
+
+pub record PutPart (first : Bool) (table label : Bytes) (deeper : Bool) (entry : Bytes) (end to : ℕ) (before after : Bytes) (r : Put) : Type 0 where
+  pub is : (appid : Bytes) → Owns appid table label deeper → Puts first appid table entry end to before after r
 
 pub record PutIs (first : Bool) (table label : Bytes) (deeper : Bool) (body : Bytes) (at to : ℕ) (before after : Bytes) (r : Put) : Type 0 where
   pub is : (appid entry : Bytes) (end : ℕ) → Owns appid table label deeper → readAt readString body at ≡ got entry end → Puts first appid table entry end to before after r

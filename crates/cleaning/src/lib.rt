@@ -1,19 +1,17 @@
 // Cleaning: what is refused, the length of the list, its bytes.
 use causes::AppOwner;
 use causes::Verdict;
-use json_text::Decoded;
 use json_text::Next;
 use refusals::Refusal;
 use trusted_list::Selection;
 ghost use mathlib.Core.Path.{_≡_};
 ghost use Prim.Native.Nat.{_+_, _≤_};
 ghost use lib.ListN.{length};
-ghost use Rattle.json_text.specs.Places.{content};
 ghost use Rattle.decision.specs.Meaning.{Owned, IdsThere, entriesAt};
 ghost use Rattle.origin.specs.Parts.{Wrote};
 ghost use Rattle.ascii.specs.Ascii.{decimal};
 ghost use Rattle.cleaning.specs.Clean.{cleanedList, fitting, clean};
-ghost use Rattle.cleaning.specs.Meaning.{ListedAt, Prepares, names, opening, idsText, HeldLength, SizedIs, Small, HeldWrote, PutIs, listHead, Cleans};
+ghost use Rattle.cleaning.specs.Meaning.{ListedAt, Prepares, names, opening, idsText, SizedPart, SizedIs, Small, IdWrote, PutPart, PutIs, listHead, Cleans};
 ghost use mathlib.Core.Bool.{true};
 ghost use lib.Dec.{leb};
 
@@ -52,22 +50,37 @@ pub enum Sized {
     Goes(usize, usize),
 }
 
-// The length of a decoded entry's normal form.
-fn held_length(d: Decoded) -> usize
-    ensures { λ r. ⌜ HeldLength (content d) r ⌝ }
+// One entry that ends before a place.
+fn size_part(
+    first: bool,
+    label: &[u8],
+    deeper: bool,
+    entry: &[u8],
+    end: usize,
+    table: &[u8],
+) -> Sized
+    ensures { λ r. ⌜ SizedPart first (now (table .entry)) (now (label .entry)) deeper (now (entry .entry)) end r × Small r ⌝ }
 {
-    if d.long {
-        return 0;
+    if 512 < entry.len() {
+        return Sized::Goes(end, 0);
     }
-    let n = d.len;
-    if 512 < n {
-        return 0;
+    match causes::judge(entry, label, deeper, table) {
+        Verdict::Kept => {
+            let n = origin::normal::normal_length(entry);
+            if first {
+                return Sized::Goes(end, n + 2);
+            }
+            Sized::Goes(end, n + 3)
+        }
+        Verdict::TooLong => Sized::Goes(end, 0),
+        Verdict::OtherScheme => Sized::Goes(end, 0),
+        Verdict::NotFacet => Sized::Goes(end, 0),
+        Verdict::OtherLabel => Sized::Goes(end, 0),
     }
-    let bytes = d.bytes;
-    origin::normal::normal_length(&bytes[0..n])
 }
 
-fn size_entry(
+// An entry that may have escapes, decoded first.
+fn size_escaped(
     first: bool,
     label: &[u8],
     deeper: bool,
@@ -83,19 +96,33 @@ fn size_entry(
         return Sized::Wrong;
     };
     let d = t.decoded;
-    match causes::judge_decoded(d, label, deeper, table) {
-        Verdict::Kept => {
-            let n = held_length(d);
-            if first {
-                return Sized::Goes(j, n + 2);
-            }
-            Sized::Goes(j, n + 3)
-        }
-        Verdict::TooLong => Sized::Goes(j, 0),
-        Verdict::OtherScheme => Sized::Goes(j, 0),
-        Verdict::NotFacet => Sized::Goes(j, 0),
-        Verdict::OtherLabel => Sized::Goes(j, 0),
+    if d.long {
+        return Sized::Goes(j, 0);
     }
+    let n = d.len;
+    if 512 < n {
+        return Sized::Goes(j, 0);
+    }
+    let bytes = d.bytes;
+    size_part(first, label, deeper, &bytes[0..n], j, table)
+}
+
+// An entry without escapes is judged where it stands.
+fn size_entry(
+    first: bool,
+    label: &[u8],
+    deeper: bool,
+    body: &[u8],
+    at: usize,
+    table: &[u8],
+) -> Sized
+    ensures { λ r. ⌜ SizedIs first (now (table .entry)) (now (label .entry)) deeper (now (body .entry)) at r × Small r ⌝ }
+{
+    let Next::At(q) = json_text::strings::plain_end(body, at) else {
+        return size_escaped(first, label, deeper, body, at, table);
+    };
+    let from = at + 1;
+    size_part(first, label, deeper, &body[from..q], q + 1, table)
 }
 
 // The length of the ids as they are written.
@@ -150,25 +177,42 @@ fn write_opening(first: bool, out: &mut [u8], at: usize) -> usize
     origin::normal::write_bytes(b",\"", out, at)
 }
 
-// The id of a decoded entry.
-fn write_held(first: bool, d: Decoded, out: &mut [u8], at: usize) -> usize
-    ensures { λ r. ⌜ HeldWrote first (content d) at (now (out .entry)) (now (out .exit)) r ⌝ }
+// The id of an entry.
+fn write_id(first: bool, entry: &[u8], out: &mut [u8], at: usize) -> usize
+    ensures { λ r. ⌜ IdWrote first (now (entry .entry)) at (now (out .entry)) (now (out .exit)) r ⌝ }
 {
-    if d.long {
-        return at;
-    }
-    let n = d.len;
-    if 512 < n {
-        return at;
-    }
-    let bytes = d.bytes;
     let a = write_opening(first, out, at);
-    let b = origin::normal::write_normal(&bytes[0..n], out, a);
+    let b = origin::normal::write_normal(entry, out, a);
     origin::normal::write_bytes(b"\"", out, b)
 }
 
-// The id of an entry, where it is kept.
-fn write_entry(
+// One entry that ends before a place: its id, where it is kept.
+fn write_part(
+    first: bool,
+    label: &[u8],
+    deeper: bool,
+    entry: &[u8],
+    end: usize,
+    table: &[u8],
+    out: &mut [u8],
+    to: usize,
+) -> Put
+    ensures { λ r. ⌜ PutPart first (now (table .entry)) (now (label .entry)) deeper (now (entry .entry)) end to (now (out .entry)) (now (out .exit)) r ⌝ }
+{
+    match causes::judge(entry, label, deeper, table) {
+        Verdict::Kept => {
+            let m = write_id(first, entry, out, to);
+            Put::Moves(end, m)
+        }
+        Verdict::TooLong => Put::Moves(end, to),
+        Verdict::OtherScheme => Put::Moves(end, to),
+        Verdict::NotFacet => Put::Moves(end, to),
+        Verdict::OtherLabel => Put::Moves(end, to),
+    }
+}
+
+// An entry that may have escapes, decoded first.
+fn write_escaped(
     first: bool,
     label: &[u8],
     deeper: bool,
@@ -186,16 +230,35 @@ fn write_entry(
         return Put::Stuck;
     };
     let d = t.decoded;
-    match causes::judge_decoded(d, label, deeper, table) {
-        Verdict::Kept => {
-            let m = write_held(first, d, out, to);
-            Put::Moves(j, m)
-        }
-        Verdict::TooLong => Put::Moves(j, to),
-        Verdict::OtherScheme => Put::Moves(j, to),
-        Verdict::NotFacet => Put::Moves(j, to),
-        Verdict::OtherLabel => Put::Moves(j, to),
+    if d.long {
+        return Put::Moves(j, to);
     }
+    let n = d.len;
+    if 512 < n {
+        return Put::Moves(j, to);
+    }
+    let bytes = d.bytes;
+    write_part(first, label, deeper, &bytes[0..n], j, table, out, to)
+}
+
+// An entry without escapes is judged where it stands.
+fn write_entry(
+    first: bool,
+    label: &[u8],
+    deeper: bool,
+    body: &[u8],
+    at: usize,
+    table: &[u8],
+    out: &mut [u8],
+    to: usize,
+) -> Put
+    ensures { λ r. ⌜ PutIs first (now (table .entry)) (now (label .entry)) deeper (now (body .entry)) at to (now (out .entry)) (now (out .exit)) r ⌝ }
+{
+    let Next::At(q) = json_text::strings::plain_end(body, at) else {
+        return write_escaped(first, label, deeper, body, at, table, out, to);
+    };
+    let from = at + 1;
+    write_part(first, label, deeper, &body[from..q], q + 1, table, out, to)
 }
 
 // The ids, from a place of the output on.

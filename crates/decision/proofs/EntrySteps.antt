@@ -58,11 +58,11 @@ unfolding causeOf
 too-long appid table e h = ap isNone (sym h)
 
 module _ (caller table label : Bytes) (deeper : Bool) (s : Bytes) (at : ℕ) {t : Text} (H : Holds (contentOf (readAt readString s at)) (placeOf (readAt readString s at)) t) where
+  pub no-string : t .end ≡ Bad → (e : Bytes) (j : ℕ) → readAt readString s at ≡ got e j → ⊥
+  no-string b e j f = unfold placeOf in (let x : Bad ≡ At j = sym b ∙ H .end-is ∙ rw f in let z : _≡_ {A = ℕ} 0 1 = cc in omega arith)
+
   pub step-wrong : t .end ≡ Bad → StepIs caller table label deeper s at Wrong
-  step-wrong b = record { is = λ appid e j O f. absurd (apart e j f) }
-    where
-      apart : (e : Bytes) (j : ℕ) → readAt readString s at ≡ got e j → ⊥
-      apart e j f = unfold placeOf in (let x : Bad ≡ At j = sym b ∙ H .end-is ∙ rw f in let z : _≡_ {A = ℕ} 0 1 = cc in omega arith)
+  step-wrong b = record { is = λ appid e j O f. absurd (no-string b e j f) }
 
   module _ {j : ℕ} (p : t .end ≡ At j) where
     pub end-is : (e : Bytes) (k : ℕ) → readAt readString s at ≡ got e k → j ≡ k
@@ -79,19 +79,27 @@ module _ (caller table label : Bytes) (deeper : Bool) (s : Bytes) (at : ℕ) {t 
       pub held-part : length (t .decoded .bytes) ≡ 512 → t .decoded .len ≤ length (t .decoded .bytes)
       held-part w = omega arith
 
+      -- what is held is the entry
+      pub held-entry : (e : Bytes) (k : ℕ) → readAt readString s at ≡ got e k → take (t .decoded .len - 0) (drop 0 (t .decoded .bytes)) ≡ e
+      held-entry e k f =
+          let z : t .decoded .len - 0 ≡ t .decoded .len = omega arith in
+          ap (λ (n : ℕ). take n (t .decoded .bytes)) z ∙ fit-some e (sym (content-short (t .decoded) h l) ∙ held-is e k f)
+
       pub step-held : {r : Step} → PartIs caller table label deeper (take (t .decoded .len - 0) (drop 0 (t .decoded .bytes))) j r → StepIs caller table label deeper s at r
-      step-held {r} P = record { is = λ appid e k O f. rw (end-is e k f, part-is e k f) at (P .is appid O) }
-        where
-          part-is : (e : Bytes) (k : ℕ) → readAt readString s at ≡ got e k → take (t .decoded .len - 0) (drop 0 (t .decoded .bytes)) ≡ e
-          part-is e k f =
-              let z : t .decoded .len - 0 ≡ t .decoded .len = omega arith in
-              ap (λ (n : ℕ). take n (t .decoded .bytes)) z ∙ fit-some e (sym (content-short (t .decoded) h l) ∙ held-is e k f)
+      step-held {r} P = record { is = λ appid e k O f. rw (end-is e k f, held-entry e k f) at (P .is appid O) }
+
+    -- one that is not held is discarded
+    pub long-dropped : t .decoded .long ≡ true → (appid e : Bytes) (k : ℕ) → Owns appid table label deeper → readAt readString s at ≡ got e k → isNone (cause appid table e) ≡ false
+    long-dropped h appid e k O f = too-long appid table e (held-long table label deeper (t .decoded) h .is appid e O (held-is e k f))
+
+    pub over-dropped : t .decoded .long ≡ false → 512 < t .decoded .len → (appid e : Bytes) (k : ℕ) → Owns appid table label deeper → readAt readString s at ≡ got e k → isNone (cause appid table e) ≡ false
+    over-dropped h l appid e k O f = too-long appid table e (held-over table label deeper (t .decoded) h l .is appid e O (held-is e k f))
 
     pub step-long : t .decoded .long ≡ true → StepIs caller table label deeper s at (Goes j 0)
-    step-long h = record { is = λ appid e k O f. rw (end-is e k f) (is-dropped (too-long appid table e (held-long table label deeper (t .decoded) h .is appid e O (held-is e k f)))) }
+    step-long h = record { is = λ appid e k O f. rw (end-is e k f) (is-dropped (long-dropped h appid e k O f)) }
 
     pub step-over : t .decoded .long ≡ false → 512 < t .decoded .len → StepIs caller table label deeper s at (Goes j 0)
-    step-over h l = record { is = λ appid e k O f. rw (end-is e k f) (is-dropped (too-long appid table e (held-over table label deeper (t .decoded) h l .is appid e O (held-is e k f)))) }
+    step-over h l = record { is = λ appid e k O f. rw (end-is e k f) (is-dropped (over-dropped h l appid e k O f)) }
 
 -- ---- the loop
 

@@ -66,49 +66,45 @@ module _ {s : Bytes} {at : ℕ} {r : Next} (P : PlainIs s at r) {q : ℕ} (h : r
         → Judges table label deeper (take (q - (at + 1)) (drop (at + 1) s)) v → causeOf v ≡ cause appid table e
     plain-cause {table} appid O J = J .is appid O ∙ ap (cause appid table) (sym plain-is)
 
+-- ---- what a verdict tells, for every reader of entries
+
+module _ {v : Verdict} where
+  pub keeps : v ≡ Kept → isNone (causeOf v) ≡ true
+  unfolding causeOf
+  keeps h = rw h
+
+  pub drops-long : v ≡ TooLong → isNone (causeOf v) ≡ false
+  unfolding causeOf
+  drops-long h = rw h
+
+  pub drops-scheme : v ≡ OtherScheme → isNone (causeOf v) ≡ false
+  unfolding causeOf
+  drops-scheme h = rw h
+
+  pub drops-facet : v ≡ NotFacet → isNone (causeOf v) ≡ false
+  unfolding causeOf
+  drops-facet h = rw h
+
+  pub drops-label : v ≡ OtherLabel → isNone (causeOf v) ≡ false
+  unfolding causeOf
+  drops-label h = rw h
+
+pub judged : {table label : Bytes} {deeper : Bool} {e : Bytes} {v : Verdict} {u : Bool} (appid : Bytes) → Judges table label deeper e v → isNone (causeOf v) ≡ u
+    → Owns appid table label deeper → isNone (cause appid table e) ≡ u
+judged appid J h O = ap isNone (sym (J .is appid O)) ∙ h
+
 -- ---- one entry
 
 module _ (caller table label : Bytes) (deeper : Bool) (e : Bytes) (end : ℕ) {v : Verdict} (J : Judges table label deeper e v) where
-  module _ (h : v ≡ Kept) where
-    none-holds : (appid : Bytes) → Owns appid table label deeper → isNone (cause appid table e) ≡ true
-    none-holds appid O = ap isNone (sym (J .is appid O)) ∙ go h
-      where
-        go : v ≡ Kept → isNone (causeOf v) ≡ true
-        go h = unfold causeOf in (rw h)
+  module _ (h : v ≡ Kept) {m : Bool} (f : m ≡ facetMatches caller e) where
+    pub part-matched : m ≡ true → PartIs caller table label deeper e end Matched
+    part-matched g = record { is = λ appid O. matches-it (judged appid J (keeps h) O) (sym f ∙ g) }
 
-    module _ {m : Bool} (f : m ≡ facetMatches caller e) where
-      pub part-matched : m ≡ true → PartIs caller table label deeper e end Matched
-      part-matched g = record { is = λ appid O. matches-it (none-holds appid O) (sym f ∙ g) }
+    pub part-kept : m ≡ false → PartIs caller table label deeper e end (Goes end 1)
+    part-kept g = record { is = λ appid O. is-kept (judged appid J (keeps h) O) (sym f ∙ g) }
 
-      pub part-kept : m ≡ false → PartIs caller table label deeper e end (Goes end 1)
-      part-kept g = record { is = λ appid O. is-kept (none-holds appid O) (sym f ∙ g) }
-
-  dropped : isNone (causeOf v) ≡ false → PartIs caller table label deeper e end (Goes end 0)
-  dropped g = record { is = λ appid O. is-dropped (ap isNone (sym (J .is appid O)) ∙ g) }
-
-  pub part-long : v ≡ TooLong → PartIs caller table label deeper e end (Goes end 0)
-  part-long h = dropped (go h)
-    where
-      go : v ≡ TooLong → isNone (causeOf v) ≡ false
-      go h = unfold causeOf in (rw h)
-
-  pub part-scheme : v ≡ OtherScheme → PartIs caller table label deeper e end (Goes end 0)
-  part-scheme h = dropped (go h)
-    where
-      go : v ≡ OtherScheme → isNone (causeOf v) ≡ false
-      go h = unfold causeOf in (rw h)
-
-  pub part-facet : v ≡ NotFacet → PartIs caller table label deeper e end (Goes end 0)
-  part-facet h = dropped (go h)
-    where
-      go : v ≡ NotFacet → isNone (causeOf v) ≡ false
-      go h = unfold causeOf in (rw h)
-
-  pub part-label : v ≡ OtherLabel → PartIs caller table label deeper e end (Goes end 0)
-  part-label h = dropped (go h)
-    where
-      go : v ≡ OtherLabel → isNone (causeOf v) ≡ false
-      go h = unfold causeOf in (rw h)
+  pub part-dropped : isNone (causeOf v) ≡ false → PartIs caller table label deeper e end (Goes end 0)
+  part-dropped g = record { is = λ appid O. is-dropped (judged appid J g O) }
 
 -- the entry at a place is the part
 pub step-plain : {s : Bytes} {at : ℕ} {r : Next} {q : ℕ} {caller table label : Bytes} {deeper : Bool} {x : Step} → PlainIs s at r → r ≡ At q

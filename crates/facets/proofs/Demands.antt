@@ -10,8 +10,9 @@ use Rattle.cleaning.proofs.Padding.{padding-clean, padding-length, padding-outp
 use Rattle.cleaning.proofs.Rereading.{re-reading}
 use Rattle.cleaning.proofs.Twice.{clean-twice}
 use Rattle.cleaning.proofs.ListLaws.{taken}
+use Rattle.tally.proofs.TallyTotal.{tally-total}
 use Rattle.facets.specs.Cleanings.{cleanNumber}
-use Rattle.facets.specs.Demands.{SameAnswers, Padding, Owners, Rereading, Recleaning}
+use Rattle.facets.specs.Demands.{SameAnswers, Padding, Owners, Rereading, Recleaning, Totals}
 
 pub padding : Padding
 padding appid table major minor body₁ body₂ S = record {
@@ -33,3 +34,6 @@ pub recleaning : Recleaning
 recleaning appid major minor body table before list e other =
     let T = taken appid major minor body table before list e in
     ap (λ (x : Bytes). clean appid major minor x table other) (sym (T .is)) ∙ clean-twice appid table major minor body (T .accepted) other
+
+pub totals : Totals
+totals = tally-total

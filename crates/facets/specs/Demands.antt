@@ -3,13 +3,16 @@
 use mathlib.Core.Path.{_≡_}
 use mathlib.Core.Option.{some}
 use Prim.Native.Nat.{ℕ}
+use lib.ListN.{length}
 use Rattle.ascii.specs.Ascii.{Bytes}
 use Rattle.origin.specs.Origin.{Authority, webOrigin}
+use Rattle.trusted_list.specs.TrustedList.{entries}
 use Rattle.decision.specs.Answer.{rule4}
 use Rattle.decision.specs.Decide.{decide}
 use Rattle.decision.specs.SameKept.{SameKept}
 use Rattle.decision.specs.SameLabel.{SameLabel}
 use Rattle.cleaning.specs.Clean.{cleaned, clean, cleanedLength, outputAfter}
+use Rattle.tally.specs.Tally.{Counts, total, tallied, tally}
 use Rattle.facets.specs.Cleanings.{cleanNumber}
 
 -- ---- demand 3: two whole bodies
@@ -48,3 +51,9 @@ abbrev pub Recleaning : Type 0
 Recleaning =
     (appid : Bytes) (major minor : ℕ) (body table before list : Bytes) → clean appid major minor body table before ≡ cleaned list
     → (other : Bytes) → clean appid major minor list table other ≡ clean appid major minor body table other
+
+-- ---- demand 2: the tally
+
+-- the counts add up to the number of selected entries
+abbrev pub Totals : Type 0
+Totals = (appid : Bytes) (major minor : ℕ) (body table : Bytes) (c : Counts) → tally appid major minor body table ≡ tallied c → total c ≡ length (entries major minor body)

@@ -8,9 +8,9 @@ use Rattle.json_text.proofs.NumberSteps.{digit-below, digit-at-most, di
 use Rattle.json_text.proofs.Decimals.{decimals}
 use Rattle.json_text.proofs.Plain.{seq-bad, seq-on, range-low, range-in, range-high, wide-low, wide-c2, wide-e0, wide-e1, wide-ed, wide-ee, wide-f0, wide-f1, wide-f4, wide-high, plain-low, plain-quote, plain-backslash, plain-20, plain-23, plain-5d, plain-wide}
 use Rattle.json_text.proofs.EscapeSteps.{hex-low, hex-decimal, hex-between, hex-upper, hex-middle, hex-lower, hex-high, fits-hex, hex4-first, hex4-second, hex4-third, hex4-fourth, hex4-all, code-bad, code-low, code-high, code-lone, pair-bare, pair-bad, pair-under, pair-above, pair-is, escape-quote, escape-backslash, escape-slash, escape-b, escape-f, escape-n, escape-r, escape-t, escape-u, escape-other}
-use Rattle.json_text.proofs.Chars.{char-bad, char-at, char-plain, spells-starts, spells-end, spells-bad, spells-less, spells-more, string-bad, string-some}
+use Rattle.json_text.proofs.Chars.{char-bad, char-at, char-plain, spells-starts, string-bad, string-some}
 use Rattle.json_text.proofs.Holding.{nothing-held, put-full, put-one, part-starts, part-end, part-past, part-more, code-one, code-two, code-three, code-four, held-wrong, held-code, held-no, held-plain, decode-wrong, decode-starts, decode-end, decode-bad, decode-less, decode-more, text-long, text-over, text-other, compare-starts, compare-more, compare-end, compare-not, name-is}
-use Rattle.json_text.proofs.PlainSteps.{plain-none, plain-starts, plain-found, plain-more}
+use Rattle.json_text.proofs.PlainSteps.{ascii-low, ascii-high, ascii-quote, ascii-other, ascii-end, ascii-bad, ascii-less, ascii-more, plain-none, plain-starts, plain-found, plain-more}
 
 -- for the cheap needs: sums that fit, places that are there
 pub ruleset fits = (fits-next, fits-either, fits-below, needs)
@@ -28,7 +28,9 @@ pub ruleset unescaped-laws = (seq-bad, seq-on, range-low, range-in, range-high, 
 
 pub ruleset escape-laws = (hex-low, hex-decimal, hex-between, hex-upper, hex-middle, hex-lower, hex-high, fits-hex, hex4-first, hex4-second, hex4-third, hex4-fourth, hex4-all, code-bad, code-low, code-high, code-lone, pair-bare, pair-bad, pair-under, pair-above, pair-is, escape-quote, escape-backslash, escape-slash, escape-b, escape-f, escape-n, escape-r, escape-t, escape-u, escape-other, hex-fits)
 
-pub ruleset string-laws = (char-bad, char-at, char-plain, spells-starts, spells-end, spells-bad, spells-less, spells-more, string-bad, string-some, fits)
+pub ruleset ascii-laws = (scan-end, scan-stop, scan-more, ascii-low, ascii-high, ascii-quote, ascii-other, needs)
+
+pub ruleset string-laws = (char-bad, char-at, char-plain, spells-starts, ascii-end, ascii-bad, ascii-less, ascii-more, string-bad, string-some, fits)
 
 pub ruleset plain-laws = (plain-none, plain-starts, plain-found, plain-more, needs)
 

@@ -1,12 +1,12 @@
 -- A string without escapes: its bytes as they stand.
 use mathlib.Core.Path.{_≡_, refl, ap, sym, _∙_}
-use mathlib.Core.Bool.{Bool, true, false, _&&_, not}
+use mathlib.Core.Bool.{Bool, true, false, _&&_, not, and-eq-true-iff}
 use mathlib.Core.List.{List, [], _∷_, _++_}
 use Prim.Native.Nat.{ℕ, zero, suc, _+_, _-_, _≤_, _<_}
-use native.Mathlib.Nat.{lt-irrefl}
+use native.Mathlib.Nat.{lt-irrefl, add-zero}
 use native.Mathlib.Omega.{arith}
 use native.Mathlib.Numerals.{add-one}
-use borrow.Author.Tests.{eqb-true, eqb-false, leb-true, ne-eqb, eq-eqb, lt-leb}
+use borrow.Author.Tests.{eqb-true, eqb-false, leb-true, leb-false, ne-eqb, eq-eqb}
 use lib.Dec.{eqb, leb}
 use lib.ListN.{length, getD, take, drop}
 use lib.Seq.{drop-cons, drop-drop, take-add}
@@ -14,13 +14,14 @@ use Rattle.ascii.specs.Ascii.{Bytes, if_then_else_, between}
 use Rattle.json_text.specs.Reader.{Read, got, bad, Reader, more, behind, _>>=_, _>>_, give, fail, peek, satisfy, byteRange, countWhile, many, lead_to_then_else_, mapped, verbatim, counted}
 use Rattle.json_text.specs.Utf8.{utf8Tail, thenTail, thenTails, multibyteChar}
 use Rattle.json_text.specs.Lexical.{unescaped, readChar, readChars, readString}
-use Rattle.json_text.specs.Places.{Peeked, readAt}
-use Rattle.json_text.specs.PlainString.{isPlain, Within, in-text, no-place, Plain, is-plain, is-other, PlainIs}
+use Rattle.json_text.specs.Places.{Peeked, readAt, placeOf}
+use Rattle.json_text.specs.PlainString.{isPlain, isAsciiChar, Within, in-text, no-place, Plain, is-plain, is-other, PlainIs}
 use Rattle.json_text.specs.declared.Next.{Next}
 use Rattle.json_text.specs.declared.Next.the-variants.{At, Bad}
-use Rattle.json_text.proofs.Steps.{on, then-bad, one-yes, one-no, counted-at, is-one, not-one, fail-at}
+use Rattle.json_text.proofs.Steps.{on, then-bad, one-yes, one-no, counted-at, is-one, not-one, fail-at, no-fall, inside, under, above}
 use Rattle.json_text.proofs.Scan.{scan-stop, scan-more}
-use Rattle.json_text.proofs.Chars.{char-raw, char-moves, chars-end, chars-stop, chars-step}
+use Rattle.json_text.proofs.Plain.{plain-20, plain-23, plain-5d}
+use Rattle.json_text.proofs.Chars.{char-raw, char-plain, chars-end, chars-stop, chars-step, Spells, spells-end, spells-bad, spells-less, spells-more}
 use Rattle.json_text.proofs.Holding.{verbatim-at, verbatim-bad}
 
 -- ---- plain bytes
@@ -247,6 +248,94 @@ module _ (s : Bytes) where
           let d : peek (drop i s) ≡ 34 = rw a at h in
           absurd (eqb-false (peek (drop i s)) 34 f d)
       go false false f k r = whole-step i n r e h (eqb-false (peek (drop i s)) 34 f) (eqb-false (peek (drop i s)) 92 k)
+
+-- ---- characters of one byte
+
+module _ (b : ℕ) where
+  pub ascii-low : b < 0x20 → false ≡ isAsciiChar b
+  unfolding isAsciiChar
+  ascii-low h = rw (under 0x20 0x7F b h)
+
+  pub ascii-high : 0x7F < b → false ≡ isAsciiChar b
+  unfolding isAsciiChar
+  ascii-high h = rw (above 0x20 0x7F b h)
+
+  pub ascii-quote : 0x20 ≤ b → b ≤ 0x7F → b ≡ 34 → false ≡ isAsciiChar b
+  unfolding isAsciiChar
+  ascii-quote h k e = rw (inside 0x20 0x7F b h k, plain-not b e)
+
+  pub ascii-other : 0x20 ≤ b → b ≤ 0x7F → (b ≡ 34 → ⊥) → not (eqb b 92) ≡ isAsciiChar b
+  unfolding isAsciiChar isPlain
+  ascii-other h k n = rw (inside 0x20 0x7F b h k, ne-eqb b 34 n)
+
+both : (a b : Bool) → (a && b) ≡ true → (a ≡ true) × (b ≡ true)
+both a b = and-eq-true-iff a b .0
+
+ascii-tells : (b : ℕ) → isAsciiChar b ≡ true → (0x20 ≤ b) × (b ≤ 0x7F) × (b ≡ 34 → ⊥) × (b ≡ 92 → ⊥)
+unfolding isAsciiChar
+ascii-tells b e =
+    let x = both (between 0x20 0x7F b) (isPlain b) e in
+    let y = in-band 0x20 0x7F b (x .0) in
+    (y .0, y .1, λ h. not-both (plain-not b h) (x .1), λ h. not-both (plain-back b h) (x .1))
+  where
+    not-both : isPlain b ≡ false → isPlain b ≡ true → ⊥
+    not-both f g = let z : true ≡ false = sym g ∙ f in let w : _≡_ {A = ℕ} 0 1 = cc in omega arith
+
+-- it is read as a character of one byte
+ascii-char : (s : Bytes) (i : ℕ) → isAsciiChar (peek (drop i s)) ≡ true → At (i + 1) ≡ placeOf (readAt readChar s i)
+ascii-char s i e =
+    let x = ascii-tells (peek (drop i s)) e in
+    char-plain g (x .3) (go (leb (peek (drop i s)) 0x21) (leb (peek (drop i s)) 0x5B) refl refl (x .0) (x .1) (x .2) (x .3))
+  where
+    g : Peeked s i (peek (drop i s))
+    g = record { is = refl }
+
+    go : (u v : Bool) → leb (peek (drop i s)) 0x21 ≡ u → leb (peek (drop i s)) 0x5B ≡ v → 0x20 ≤ peek (drop i s) → peek (drop i s) ≤ 0x7F → (peek (drop i s) ≡ 34 → ⊥) → (peek (drop i s) ≡ 92 → ⊥)
+        → At (i + 1) ≡ placeOf (readAt unescaped s i)
+    go true v f h l m n p = plain-20 g l (leb-true (peek (drop i s)) 0x21 f)
+    go false true f h l m n p = plain-23 g (leb-false (peek (drop i s)) 0x21 f) n (leb-true (peek (drop i s)) 0x5B h)
+    go false false f h l m n p = plain-5d g (leb-false (peek (drop i s)) 0x5B h) p m
+
+-- past the characters of one byte
+ascii-on : (m : ℕ) (s : Bytes) (goal : Next) (i : ℕ) → countWhile isAsciiChar (drop i s) ≡ m → Spells s goal i → Spells s goal (i + m)
+ascii-on zero s goal i e L = rw (add-zero i) L
+ascii-on (suc m) s goal i e L =
+    let c = front (drop i s) e in
+    let M = spells-more L (record { is = refl }) (ascii-tells (peek (drop i s)) (c .0) .2) (ascii-char s i (c .0)) refl in
+    let z : countWhile isAsciiChar (drop (i + 1) s) ≡ m = ap (countWhile isAsciiChar) (sym (drop-drop 1 i s)) ∙ c .1 in
+    let w : i + 1 + m ≡ i + suc m = omega arith in
+    rw w at (ascii-on m s goal (i + 1) z M)
+  where
+    front : (l : Bytes) → countWhile isAsciiChar l ≡ suc m → (isAsciiChar (peek l) ≡ true) × (countWhile isAsciiChar (drop 1 l) ≡ m)
+    front [] e = unfold countWhile in (let w : _≡_ {A = ℕ} 0 1 = omega arith in absurd (omega arith))
+    front (b ∷ l) e = unfold peek countWhile in (go (isAsciiChar b) refl e)
+      where
+        go : (u : Bool) → isAsciiChar b ≡ u → (if u then suc (countWhile isAsciiChar l) else 0) ≡ suc m → (isAsciiChar b ≡ true) × (countWhile isAsciiChar l ≡ m)
+        go true f e = (f, omega arith)
+        go false f e = absurd (omega arith)
+
+module _ {s : Bytes} {goal : Next} {i k b : ℕ} (L : Spells s goal i) (e : readAt (many isAsciiChar) s i ≡ got tt k) (g : Peeked s k b) where
+  on-to : Spells s goal k
+  on-to = go e
+    where
+      go : readAt (many isAsciiChar) s i ≡ got tt k → Spells s goal k
+      go e = unfold readAt many more in (let z : i + countWhile isAsciiChar (drop i s) ≡ k = cc in rw z at (ascii-on (countWhile isAsciiChar (drop i s)) s goal i refl L))
+
+  pub ascii-end : b ≡ 34 → At (k + 1) ≡ goal
+  ascii-end h = spells-end on-to g h
+
+  module _ (h : b ≡ 34 → ⊥) {q : Next} (f : q ≡ placeOf (readAt readChar s k)) where
+    pub ascii-bad : q ≡ Bad → Bad ≡ goal
+    ascii-bad n = spells-bad on-to g h f n
+
+    pub ascii-less : {j : ℕ} → q ≡ At j → length s - j < length s - i
+    ascii-less {j} n =
+        let x : length s - j < length s - k = spells-less on-to g h f n in
+        let y : i ≤ k = no-fall (many isAsciiChar) s i e in
+        omega arith
+
+    pub ascii-more : {j : ℕ} → q ≡ At j → Spells s goal j
+    ascii-more n = spells-more on-to g h f n
 
 -- ---- the string at a place
 

@@ -5,7 +5,7 @@ use Prim.Native.Nat.{ℕ, _+_, _-_, _≤_, _<_}
 use Prim.Native.Char.{code}
 use lib.Dec.{eqb}
 use lib.ListN.{length, take, drop}
-use Rattle.ascii.specs.Ascii.{Bytes}
+use Rattle.ascii.specs.Ascii.{Bytes, between}
 use Rattle.json_text.specs.Reader.{got}
 use Rattle.json_text.specs.Lexical.{readString}
 use Rattle.json_text.specs.Places.{readAt}
@@ -15,6 +15,10 @@ use Rattle.json_text.specs.declared.Next.the-variants.{At, Bad}
 -- neither the quotation mark nor the backslash
 unfoldable pub isPlain : ℕ → Bool
 isPlain b = not (eqb b (code "\"")) && not (eqb b (code "\\"))
+
+-- a character of one byte that is not escaped
+unfoldable pub isAsciiChar : ℕ → Bool
+isAsciiChar b = between 0x20 0x7F b && isPlain b
 
 -- a place behind the opening quotation mark, in the text
 pub data Within (s : Bytes) (from : ℕ) : Next → Type 0 where

@@ -5,10 +5,10 @@ use super::byte_at;
 use super::escapes::read_escape;
 use super::unescaped::skip_unescaped;
 ghost use mathlib.Core.Path.{_≡_};
-ghost use Rattle.json_text.specs.Reader.{counted};
+ghost use Rattle.json_text.specs.Reader.{got, many, counted};
 ghost use Rattle.json_text.specs.Lexical.{readChar, readChars, readString};
 ghost use Rattle.json_text.specs.Places.{readAt, placeOf};
-ghost use Rattle.json_text.specs.PlainString.{PlainIs};
+ghost use Rattle.json_text.specs.PlainString.{isAsciiChar, PlainIs};
 
 fn skip_char(s: &[u8], from: usize) -> Next
     ensures { λ r. ⌜ r ≡ placeOf (readAt readChar (now (s .entry)) from) ⌝ }
@@ -22,16 +22,47 @@ fn skip_char(s: &[u8], from: usize) -> Next
     skip_unescaped(s, from)
 }
 
+fn is_ascii_char(b: u8) -> bool
+    ensures { λ r. ⌜ r ≡ isAsciiChar b ⌝ }
+{
+    if b < 0x20 {
+        return false;
+    }
+    if 0x7F < b {
+        return false;
+    }
+    if b == 34 {
+        return false;
+    }
+    b != 92
+}
+
+// The place behind the characters of one byte at a place: most of a string, in a short loop.
+fn skip_ascii(s: &[u8], from: usize) -> usize
+    ensures { λ r. ⌜ readAt (many isAsciiChar) (now (s .entry)) from ≡ got tt r ⌝ }
+{
+    let mut i = from;
+    while i < s.len() {
+        if is_ascii_char(s[i]) {
+            i += 1;
+        } else {
+            return i;
+        }
+    }
+    i
+}
+
 // What follows the opening quote.
 fn skip_chars(s: &[u8], from: usize) -> Next
     ensures { λ r. ⌜ r ≡ placeOf (readAt (counted readChars) (now (s .entry)) from) ⌝ }
 {
     let mut i = from;
     loop {
-        if byte_at(s, i) == 34 {
-            return Next::At(i + 1);
+        let k = skip_ascii(s, i);
+        if byte_at(s, k) == 34 {
+            return Next::At(k + 1);
         }
-        let Next::At(j) = skip_char(s, i) else {
+        let Next::At(j) = skip_char(s, k) else {
             return Next::Bad;
         };
         i = j;

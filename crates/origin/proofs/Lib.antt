@@ -1,5 +1,6 @@
 pub mod Steps
 pub mod Readings
+pub mod UnlikeSteps
 pub mod Laws
 pub mod Writings
 pub mod Origins

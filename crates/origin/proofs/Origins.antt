@@ -19,7 +19,7 @@ use Rattle.origin.specs.Parts.{isEnd}
 
 -- ---- tests
 
-both : (a b : Bool) → (a && b) ≡ true → (a ≡ true) × (b ≡ true)
+pub both : (a b : Bool) → (a && b) ≡ true → (a ≡ true) × (b ≡ true)
 both a b = and-eq-true-iff a b .0
 
 pub begins-split : (p s : Bytes) → beginsWith p s ≡ true → s ≡ p ++ drop (length p) s

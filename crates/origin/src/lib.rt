@@ -9,6 +9,7 @@ ghost use Rattle.ascii.specs.Ascii.{isDigit, takeWhile};
 ghost use Rattle.ascii.specs.Class.{Classifies};
 ghost use Rattle.origin.specs.Origin.{beginsHttps, beginsNative, isHostByte, readPort, readHost, readHttps, webOrigin, isKeyHashByte, isAndroid, isIos, isNative, isFacet, isTailByte, isTail, httpsUrl};
 ghost use Rattle.origin.specs.Matching.{sameHost, facetMatches};
+ghost use Rattle.origin.specs.Unlike.{isStop, mayEnd, apart, unlike};
 ghost use Rattle.origin.specs.Parts.{part, isEnd, beginsTail, portOf, withoutPort, HostEnd, Reads};
 
 // Where the parts of a text that begins `https://` stand: the host from 8 to end, then the port, then what is
@@ -335,10 +336,66 @@ pub fn same_host(caller: &[u8], appid: &[u8]) -> bool
     ascii::equal_no_case(&caller[8..a], &appid[8..b])
 }
 
+// What may follow a host: `:` or `/`.
+fn is_stop(b: u8) -> bool
+    ensures { λ r. ⌜ r ≡ isStop b ⌝ }
+{
+    if b == 58 {
+        return true;
+    }
+    b == 47
+}
+
+// A host may end at the place.
+fn may_end(s: &[u8], at: usize) -> bool
+    ensures { λ r. ⌜ r ≡ mayEnd (drop at (now (s .entry))) ⌝ }
+{
+    if at < s.len() {
+        return is_stop(s[at]);
+    }
+    true
+}
+
+fn are_apart(x: &[u8], y: &[u8], at: usize) -> bool
+    ensures { λ r. ⌜ r ≡ apart (drop at (now (x .entry))) (drop at (now (y .entry))) ⌝ }
+{
+    if may_end(x, at) {
+        if may_end(y, at) {
+            return false;
+        }
+        return true;
+    }
+    true
+}
+
+// Two identifiers differ before their hosts end: they do not match, and need not be read.
+fn are_unlike(x: &[u8], y: &[u8]) -> bool
+    ensures { λ r. ⌜ r ≡ unlike (drop 8 (now (x .entry))) (drop 8 (now (y .entry))) ⌝ }
+{
+    let mut i = 8;
+    while i < x.len() {
+        if y.len() <= i {
+            return are_apart(x, y, i);
+        }
+        if is_stop(x[i]) {
+            return are_apart(x, y, i);
+        }
+        if ascii::alike(x[i], y[i]) {
+            i += 1;
+        } else {
+            return are_apart(x, y, i);
+        }
+    }
+    are_apart(x, y, i)
+}
+
 // A native caller equals the entry in bytes, a web caller by host.
 pub fn matches(caller: &[u8], entry: &[u8]) -> bool
     ensures { λ r. ⌜ r ≡ facetMatches (now (caller .entry)) (now (entry .entry)) ⌝ }
 {
+    if are_unlike(caller, entry) {
+        return false;
+    }
     let Reading::Found(p) = web_origin(caller) else {
         return ascii::equal(caller, entry);
     };

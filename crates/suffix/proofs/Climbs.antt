@@ -126,7 +126,7 @@ tail-is host {at} S = record { is = ap labels (rest-whole host at ∙ S .is) ∙
 
 -- ---- one line
 
-depth-one : (hl : List Bytes) (r : Rule) → depthOf hl r ≡ lineDepth hl (oneRule (some r))
+pub depth-one : (hl : List Bytes) (r : Rule) → depthOf hl r ≡ lineDepth hl (oneRule (some r))
 unfolding lineDepth oneRule deepest
 depth-one hl r = omega arith
 
@@ -245,11 +245,11 @@ lines-rules hl (l ∷ ls) rules e = go (isSkipped (content l)) (readRule (conten
         let z : rules ≡ r ∷ rs = cc in
         rw (d, ih rs refl, z)
 
-lines-more : (hl : List Bytes) (l : Bytes) (ls : List Bytes) → linesDepth hl (l ∷ ls) ≡ max (lineDepth hl (readLine (content l))) (linesDepth hl ls)
+pub lines-more : (hl : List Bytes) (l : Bytes) (ls : List Bytes) → linesDepth hl (l ∷ ls) ≡ max (lineDepth hl (readLine (content l))) (linesDepth hl ls)
 unfolding linesDepth
 lines-more hl l ls = refl
 
-lines-done : (hl : List Bytes) → linesDepth hl (splitAt 10 []) ≡ linesDepth hl []
+pub lines-done : (hl : List Bytes) → linesDepth hl (splitAt 10 []) ≡ linesDepth hl []
 unfolding linesDepth splitAt readLine content takeWhile isSkipped lineDepth deepest
 lines-done hl = refl
 

@@ -44,7 +44,7 @@ none-bad host = refl
 
 -- ---- a rule by its form
 
-no-host : (b : ℕ) (x : Bytes) → isLabelByte b ≡ false → (b ≡ 46 → ⊥) → isHost (b ∷ x) ≡ false
+pub no-host : (b : ℕ) (x : Bytes) → isLabelByte b ≡ false → (b ≡ 46 → ⊥) → isHost (b ∷ x) ≡ false
 unfolding isHost labels all isLabel joinHead
 no-host b x h n = let P = split-parts 46 x in rw (split-other 46 b x n, P .is, h, and-false)
 

@@ -57,7 +57,7 @@ module _ (b : ℕ) where
 
 -- ---- findings
 
-join-zero : (b : Best) → joinBest (Sizes 0 0) b ≡ b
+pub join-zero : (b : Best) → joinBest (Sizes 0 0) b ≡ b
 unfolding joinBest
 join-zero Bad = refl
 join-zero (Sizes e m) = ap₂ Sizes (omega arith) (omega arith)
@@ -155,7 +155,7 @@ unfolding inLine
 is-lf b e = eqb-true b 10 (not-false (eqb b 10) e)
 
 module _ (host : List Bytes) (s : Bytes) (at to : ℕ) (g : to ≡ at + length (takeWhile inLine (drop at s))) where
-  lines-at : bestOf host (readLines (splitAt 10 (drop at s))) ≡ joinBest (bestOf host (readLine (takeWhile inContent (drop at s)))) (bestOf host (readLines (splitAt 10 (drop (to + 1) s))))
+  pub lines-at : bestOf host (readLines (splitAt 10 (drop at s))) ≡ joinBest (bestOf host (readLine (takeWhile inContent (drop at s)))) (bestOf host (readLines (splitAt 10 (drop (to + 1) s))))
   lines-at = rw (split-while inLine 10 lf-ends (drop at s), ← scan-rest inLine s at to g) (go (ltb to (length s)) refl)
     where
       go : (u : Bool) → ltb to (length s) ≡ u → bestOf host (readLines (onFirst (takeWhile inLine (drop at s)) (splitAt 10 (drop to s))))

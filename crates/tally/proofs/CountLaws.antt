@@ -11,17 +11,19 @@ use Rattle.ascii.specs.Ascii.{Bytes, if_then_else_, filterBy}
 use Rattle.json_text.specs.Reader.{got}
 use Rattle.json_text.specs.Lexical.{readString}
 use Rattle.json_text.specs.Places.{readAt, placeOf, content, contentOf, Holds}
+use Rattle.json_text.specs.PlainString.{PlainIs}
 use Rattle.json_text.specs.declared.Next.{Next}
 use Rattle.json_text.specs.declared.Next.the-variants.{At, Bad}
 use Rattle.json_text.specs.declared.Text.{Text}
 use Rattle.trusted_list.specs.Entries.{firstEntry, nextEntry, Coming}
 use Rattle.trusted_list.proofs.EntryLaws.{entries-come}
 use Rattle.causes.specs.Causes.{Cause, tooLong, otherScheme, notFacet, otherLabel, cause}
-use Rattle.causes.specs.Owner.{Owns, JudgesHeld, causeOf}
+use Rattle.causes.specs.Owner.{Owns, Judges, JudgesHeld, causeOf}
 use Rattle.causes.specs.declared.Verdict.{Verdict}
 use Rattle.causes.specs.declared.Verdict.the-variants.{Kept, TooLong, OtherScheme, NotFacet, OtherLabel}
 use Rattle.decision.specs.Meaning.{Owned, IdsThere, entriesAt}
-use Rattle.decision.proofs.EntrySteps.{Comes, string-spans, next-ahead, comes-at, nothing-comes, entries-at, end-is, held-is}
+use Rattle.decision.proofs.EntrySteps.{Comes, string-spans, next-ahead, comes-at, nothing-comes, entries-at, no-string, end-is, held-is}
+use Rattle.decision.proofs.PlainEntry.{plain-ends, plain-cause}
 use Rattle.tally.specs.Tally.{causeNumber, Counts, countOf, counts}
 use Rattle.tally.specs.Meaning.{countsOf, one, plus, Under, Told, told, JudgedIs}
 use Rattle.tally.specs.declared.Counts.{Counts as Held}
@@ -98,13 +100,14 @@ module _ (c : Held) {v : Verdict} where
 
 module _ (table label : Bytes) (deeper : Bool) (s : Bytes) (at : ℕ) {t : Text} (H : Holds (contentOf (readAt readString s at)) (placeOf (readAt readString s at)) t) where
   pub judged-wrong : t .end ≡ Bad → JudgedIs table label deeper s at Wrong
-  judged-wrong b = record { is = λ appid e j O f. absurd (apart e j f) }
-    where
-      apart : (e : Bytes) (j : ℕ) → readAt readString s at ≡ got e j → ⊥
-      apart e j f = unfold placeOf in (let x : Bad ≡ At j = sym b ∙ H .end-is ∙ rw f in let z : _≡_ {A = ℕ} 0 1 = cc in omega arith)
+  judged-wrong b = record { is = λ appid e j O f. absurd (no-string [] table label deeper s at H b e j f) }
 
   pub judged-is : {j : ℕ} → t .end ≡ At j → {v : Verdict} → JudgesHeld table label deeper (content (t .decoded)) v → JudgedIs table label deeper s at (Is v j)
   judged-is p J = record { is = λ appid e k O f. rw (end-is [] table label deeper s at H p e k f) (told (J .is appid e O (held-is [] table label deeper s at H p e k f))) }
+
+pub judged-plain : {s : Bytes} {at : ℕ} {r : Next} {q : ℕ} {table label : Bytes} {deeper : Bool} {v : Verdict} → PlainIs s at r → r ≡ At q
+    → Judges table label deeper (take (q - (at + 1)) (drop (at + 1) s)) v → JudgedIs table label deeper s at (Is v (q + 1))
+judged-plain P h J = record { is = λ appid e k O f. rw (plain-ends P h e k f) (told (plain-cause P h e k f appid O J)) }
 
 -- ---- the loop
 

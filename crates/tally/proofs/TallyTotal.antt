@@ -11,10 +11,7 @@ use Rattle.refusals.specs.declared.Refusal.{Refusal}
 use Rattle.trusted_list.specs.TrustedList.{entries}
 use Rattle.causes.specs.Causes.{Cause, tooLong, otherScheme, notFacet, otherLabel, cause}
 use Rattle.cleaning.specs.Clean.{cleanRefusal}
-use Rattle.tally.specs.Tally.{causeNumber, Counts, countOf, counts, tallied, orTally, tally}
-
-abbrev pub total : Counts → ℕ
-total c = c .kept + c .tooLong + c .otherScheme + c .notFacet + c .otherLabel
+use Rattle.tally.specs.Tally.{causeNumber, Counts, total, countOf, counts, tallied, orTally, tally}
 
 -- of any entries
 pub counts-total : (appid table : Bytes) (es : List Bytes) → total (counts appid table es) ≡ length es

@@ -1,7 +1,7 @@
 -- The tally (document 01, after the decision).
 use mathlib.Core.List.{List, [], _∷_}
 use mathlib.Core.Option.{Option, none, some}
-use Prim.Native.Nat.{ℕ}
+use Prim.Native.Nat.{ℕ, _+_}
 use lib.ListN.{length}
 use lib.Dec.{eqb}
 use Rattle.ascii.specs.Ascii.{Bytes, filterBy}
@@ -25,6 +25,9 @@ pub record Counts : Type 0 where
   pub otherScheme : ℕ
   pub notFacet : ℕ
   pub otherLabel : ℕ
+
+abbrev pub total : Counts → ℕ
+total c = c .kept + c .tooLong + c .otherScheme + c .notFacet + c .otherLabel
 
 unfoldable pub countOf : ℕ → Bytes → Bytes → List Bytes → ℕ
 countOf k appid table es = length (filterBy (λ e. eqb (causeNumber (cause appid table e)) k) es)

@@ -31,7 +31,8 @@ pub enum Judged {
     Is(Verdict, usize),
 }
 
-fn judge_entry(label: &[u8], deeper: bool, body: &[u8], at: usize, table: &[u8]) -> Judged
+// An entry that may have escapes, decoded first.
+fn judge_escaped(label: &[u8], deeper: bool, body: &[u8], at: usize, table: &[u8]) -> Judged
     ensures { λ r. ⌜ JudgedIs (now (table .entry)) (now (label .entry)) deeper (now (body .entry)) at r ⌝ }
 {
     let t = json_text::decoding::decode_string(body, at);
@@ -42,6 +43,18 @@ fn judge_entry(label: &[u8], deeper: bool, body: &[u8], at: usize, table: &[u8])
     let d = t.decoded;
     let v = causes::judge_decoded(d, label, deeper, table);
     Judged::Is(v, j)
+}
+
+// An entry without escapes is judged where it stands.
+fn judge_entry(label: &[u8], deeper: bool, body: &[u8], at: usize, table: &[u8]) -> Judged
+    ensures { λ r. ⌜ JudgedIs (now (table .entry)) (now (label .entry)) deeper (now (body .entry)) at r ⌝ }
+{
+    let Next::At(q) = json_text::strings::plain_end(body, at) else {
+        return judge_escaped(label, deeper, body, at, table);
+    };
+    let from = at + 1;
+    let v = causes::judge(&body[from..q], label, deeper, table);
+    Judged::Is(v, q + 1)
 }
 
 // One entry more.

@@ -7,41 +7,27 @@ pub size-entry-spec : {M : Type 1} → statement M
 size-entry-spec =
     tie.close
     (tie.spec
-    {- decode-string-requires -}
+    {- plain-end-requires -}
     (λ c κs. search laws)
-    {- enum-known-e -}
+    {- enum-known-q -}
     (λ c. search laws)
     {- enum-told -}
     (λ c. search laws)
+    {- size-escaped-requires -}
+    (λ c κs. search laws)
     {- returns -}
     (λ c. search laws)
-    {- judge-decoded-requires -}
-    (λ c κs. search laws)
-    {- enum-told-2 -}
+    {- add-from -}
     (λ c. search laws)
-    {- held-length-requires -}
-    (λ c κs. search laws)
-    {- add-t15 -}
+    {- sub-size-part -}
     (λ c. search laws)
+    {- part-size-part-start -}
+    (λ c. search laws)
+    {- part-size-part-end -}
+    (λ c. search laws)
+    {- add-size-part -}
+    (λ c. search laws)
+    {- size-part-requires -}
+    (λ c κs. search laws)
     {- returns-2 -}
-    (λ c. search laws)
-    {- add-t16 -}
-    (λ c. search laws)
-    {- enum-told-3 -}
-    (λ c. search laws)
-    {- enum-told-4 -}
-    (λ c. search laws)
-    {- enum-told-5 -}
-    (λ c. search laws)
-    {- enum-told-6 -}
-    (λ c. search laws)
-    {- returns-3 -}
-    (λ c. search laws)
-    {- returns-4 -}
-    (λ c. search laws)
-    {- returns-5 -}
-    (λ c. search laws)
-    {- returns-6 -}
-    (λ c. search laws)
-    {- returns-7 -}
     (λ c. search laws))

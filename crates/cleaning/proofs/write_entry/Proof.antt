@@ -7,37 +7,31 @@ pub write-entry-spec : {M : Type 1} → statement M
 write-entry-spec =
     tie.close
     (tie.spec
-    {- decode-string-requires -}
+    {- plain-end-requires -}
     (λ c κs. search writing)
-    {- enum-known-e -}
+    {- enum-known-q -}
     (λ c. search writing)
     {- enum-told -}
     (λ c. search writing)
-    {- returns -}
-    (λ c. search writing)
-    {- judge-decoded-requires -}
+    {- write-escaped-requires -}
     (λ c κs. search writing)
-    {- enum-told-2 -}
-    (λ c. search writing)
-    {- write-held-requires -}
-    (λ c κs. search writing)
-    {- enum-told-3 -}
-    (λ c. search writing)
-    {- enum-told-4 -}
-    (λ c. search writing)
-    {- enum-told-5 -}
-    (λ c. search writing)
-    {- enum-told-6 -}
-    (λ c. search writing)
     {- same-length -}
     (λ c. search writing)
+    {- returns -}
+    (λ c. search writing)
+    {- add-from -}
+    (λ c. search writing)
+    {- sub-write-part -}
+    (λ c. search writing)
+    {- part-write-part-start -}
+    (λ c. search writing)
+    {- part-write-part-end -}
+    (λ c. search writing)
+    {- add-write-part -}
+    (λ c. search writing)
+    {- write-part-requires -}
+    (λ c κs. search writing)
+    {- same-length-2 -}
+    (λ c. search writing)
     {- returns-2 -}
-    (λ c. search writing)
-    {- returns-3 -}
-    (λ c. search writing)
-    {- returns-4 -}
-    (λ c. search writing)
-    {- returns-5 -}
-    (λ c. search writing)
-    {- returns-6 -}
     (λ c. search writing))

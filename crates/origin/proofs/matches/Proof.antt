@@ -1,4 +1,4 @@
--- `origin::matches` meets its contract. Assumes nothing.
+-- `origin::matches` meets its contract.
 use Rattle.origin.proofs.Laws.{laws}
 use Rattle.origin.proofs.matches.Statement.{statement}
 use Rattle.origin.proofs.matches.Tie as tie
@@ -7,6 +7,10 @@ pub matches-spec : {M : Type 1} → statement M
 matches-spec =
     tie.close
     (tie.spec
+    {- are-unlike-requires -}
+    (λ c κs. search laws)
+    {- returns -}
+    (λ c. search laws)
     {- web-origin-requires -}
     (λ c κs. search laws)
     {- enum-known-p -}
@@ -15,7 +19,7 @@ matches-spec =
     (λ c. search laws)
     {- equal-requires -}
     (λ c κs. search laws)
-    {- returns -}
+    {- returns-2 -}
     (λ c. search laws)
     {- web-origin-requires-2 -}
     (λ c κs. search laws)
@@ -23,7 +27,7 @@ matches-spec =
     (λ c. search laws)
     {- enum-told-2 -}
     (λ c. search laws)
-    {- returns-2 -}
+    {- returns-3 -}
     (λ c. search laws)
     {- sub-equal-no-case -}
     (λ c. search laws)
@@ -39,5 +43,5 @@ matches-spec =
     (λ c. search laws)
     {- equal-no-case-requires -}
     (λ c κs. search laws)
-    {- returns-3 -}
+    {- returns-4 -}
     (λ c. search laws))

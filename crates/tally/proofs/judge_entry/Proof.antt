@@ -7,15 +7,27 @@ pub judge-entry-spec : {M : Type 1} → statement M
 judge-entry-spec =
     tie.close
     (tie.spec
-    {- decode-string-requires -}
+    {- plain-end-requires -}
     (λ c κs. search laws)
-    {- enum-known-e -}
+    {- enum-known-q -}
     (λ c. search laws)
     {- enum-told -}
     (λ c. search laws)
+    {- judge-escaped-requires -}
+    (λ c κs. search laws)
     {- returns -}
     (λ c. search laws)
-    {- judge-decoded-requires -}
+    {- add-from -}
+    (λ c. search laws)
+    {- sub-judge -}
+    (λ c. search laws)
+    {- part-judge-start -}
+    (λ c. search laws)
+    {- part-judge-end -}
+    (λ c. search laws)
+    {- judge-requires -}
     (λ c κs. search laws)
+    {- add-t11 -}
+    (λ c. search laws)
     {- returns-2 -}
     (λ c. search laws))

@@ -23,9 +23,11 @@ skip-chars-spec =
     μ-loop
     {- loop-holds -}
     (λ c. search string-laws)
+    {- skip-ascii-requires -}
+    (λ c κs. search fits)
     {- byte-at-requires -}
     (λ c κs. search fits)
-    {- add-t7 -}
+    {- add-t8 -}
     (λ c. search fits)
     {- returns -}
     (λ c. search string-laws)

@@ -1,0 +1,71 @@
+-- Lines of the table that find nothing for a host, as one loop over their bytes passes over them.
+use mathlib.Core.Path.{_≡_}
+use mathlib.Core.Bool.{Bool, true, false, _&&_, _||_}
+use Prim.Native.Nat.{ℕ, _+_, _-_, _*_, _≤_, _<_}
+use lib.ListN.{length, take, drop, getD}
+use lib.Dec.{eqb, leb}
+use Rattle.ascii.specs.Ascii.{Bytes, if_then_else_, takeWhile, splitAt, isDigit, isLetter, lowerByte}
+use Rattle.suffix.specs.Host.{labels, isHost}
+use Rattle.suffix.specs.Suffix.{readLines}
+use Rattle.suffix.specs.Pass.{bestOf, inLine, inContent}
+use Rattle.suffix.specs.Depth.{linesDepth}
+use Rattle.suffix.specs.declared.skips.Step.{Step}
+use Rattle.suffix.specs.declared.skips.Step.the-variants.{On, Off}
+use Rattle.suffix.specs.declared.skips.Stop.{Stop}
+use Rattle.suffix.specs.declared.skips.Stop.the-variants.{Host, Other}
+
+-- the lines of the table from one place to another find nothing for the host
+pub record Idle (host table : Bytes) (from to : ℕ) : Type 0 where
+  pub onward : from ≤ to
+  pub inside : to ≤ length table + 1
+  pub best : bestOf (labels host) (readLines (splitAt 10 (drop from table))) ≡ bestOf (labels host) (readLines (splitAt 10 (drop to table)))
+  pub depth : linesDepth (labels host) (splitAt 10 (drop from table)) ≡ linesDepth (labels host) (splitAt 10 (drop to table))
+
+-- the same for every host: comments and empty lines
+pub record Skipped (table : Bytes) (from to : ℕ) : Type 0 where
+  pub onward : from ≤ to
+  pub inside : to ≤ length table + 1
+  pub is : (host : Bytes) → Idle host table from to
+
+unfoldable pub lastByte : Bytes → ℕ
+lastByte s = getD s (length s - 1) 0
+
+unfoldable pub isPlain : ℕ → Bool
+isPlain b = isLetter b || isDigit b
+
+-- 0 a letter or digit, 1 one alike to `last`, 6 the hyphen, 7 the dot, 8 LF, 9 the rest. With these numbers b may stand behind a
+-- in a line that is a host not alike to `last` in its last byte exactly where kindOf a + 3 * kindOf b is at most 24, where a is LF
+-- at a line's start.
+unfoldable pub kindOf : ℕ → ℕ → ℕ
+kindOf last b =
+    if isPlain b then (if eqb (lowerByte b) (lowerByte last) then 1 else 0) else
+    if eqb b 45 then 6 else
+    if eqb b 46 then 7 else
+    if eqb b 10 then 8 else
+    9
+
+-- a table of the kinds for a host
+pub record KindsOf (host kinds : Bytes) : Type 0 where
+  pub long : length kinds ≡ 256
+  pub is : (b : ℕ) → getD kinds b 9 ≡ kindOf (lastByte host) b
+
+-- a byte of the kind k behind one of the kind p, in a line that begins at start: where the next byte's line begins, and k
+unfoldable pub stepOf : ℕ → ℕ → ℕ → ℕ → Step
+stepOf k p start next = if leb (p + 3 * k) 24 then On (if eqb k 8 then next else start) k else Off
+
+-- such a byte that may not stand there, at a place: the LF behind a host that is alike in its last byte, or another
+unfoldable pub stopOf : ℕ → ℕ → ℕ → ℕ → Stop
+stopOf k p start at = if eqb k 8 && eqb p 1 then Host start at else Other start
+
+-- the line of the table from start to the LF at to is a host
+pub record HostLine (table : Bytes) (start to : ℕ) : Type 0 where
+  pub onward : start ≤ to
+  pub inside : to < length table
+  pub ends : to ≡ start + length (takeWhile inLine (drop start table))
+  pub whole : takeWhile inContent (drop start table) ≡ take (to - start) (drop start table)
+  pub host : isHost (take (to - start) (drop start table)) ≡ true
+
+-- the lines up to start find nothing, and perhaps the line there is a host
+pub data Stopped (host table : Bytes) (from : ℕ) : Stop → Type 0 where
+  at-host : {start to : ℕ} → Idle host table from start → HostLine table start to → Stopped host table from (Host start to)
+  at-other : {start : ℕ} → Idle host table from start → start ≤ length table → Stopped host table from (Other start)

@@ -1,0 +1,155 @@
+// Lines of the table that find nothing for a host, passed over byte after byte.
+ghost use mathlib.Core.Path.{_≡_};
+ghost use mathlib.Core.Bool.{true};
+ghost use Prim.Native.Nat.{_+_, _≤_, _<_};
+ghost use lib.ListN.{length, getD};
+ghost use lib.Dec.{eqb};
+ghost use Rattle.ascii.specs.Ascii.{if_then_else_};
+ghost use Rattle.ascii.specs.Class.{Classifies};
+ghost use Rattle.suffix.specs.Depth.{Tail};
+ghost use Rattle.suffix.specs.Idle.{Idle, Skipped, lastByte, kindOf, KindsOf, stepOf, stopOf, Stopped};
+
+// One byte on: where its line begins, and the byte's kind.
+pub enum Step {
+    On(usize, u8),
+    Off,
+}
+
+// The first line that may find something: a host, from its start to its end; or another line.
+pub enum Stop {
+    Host(usize, usize),
+    Other(usize),
+}
+
+fn wide(x: u8) -> usize
+    ensures { λ r. ⌜ (r ≡ x) × (r < 256) ⌝ }
+{
+    x as usize
+}
+
+fn last_byte(s: &[u8]) -> u8
+    ensures { λ r. ⌜ r ≡ lastByte (now (s .entry)) ⌝ }
+{
+    if s.len() == 0 {
+        return 0;
+    }
+    s[s.len() - 1]
+}
+
+fn kind_of(classes: &[u8; 256], last: u8, b: u8) -> u8
+    requires { ⌜ Classifies (now classes) ⌝ }
+    ensures { λ r. ⌜ r ≡ kindOf last b ⌝ }
+{
+    if classes[b as usize] < 2 {
+        if ascii::alike(b, last) {
+            return 1;
+        }
+        return 0;
+    }
+    if b == 45 {
+        return 6;
+    }
+    if b == 46 {
+        return 7;
+    }
+    if b == 10 {
+        return 8;
+    }
+    9
+}
+
+// The kind of each byte value, for a host.
+pub(crate) fn kinds(classes: &[u8; 256], host: &[u8]) -> [u8; 256]
+    requires { ⌜ Classifies (now classes) ⌝ }
+    ensures { λ r. ⌜ KindsOf (now (host .entry)) r ⌝ }
+{
+    let last = last_byte(host);
+    let mut kinds = [0u8; 256];
+    let mut i = 0;
+    while i < 256 {
+        kinds[i] = kind_of(classes, last, i as u8);
+        i += 1;
+    }
+    kinds
+}
+
+fn kind(kinds: &[u8; 256], b: u8) -> u8
+    requires { ⌜ length (now kinds) ≡ 256 ⌝ }
+    ensures { λ r. ⌜ r ≡ getD (now (kinds .entry)) b 9 ⌝ }
+{
+    kinds[b as usize]
+}
+
+// Behind an LF a new line begins.
+fn line_start(k: u8, start: usize, next: usize) -> usize
+    ensures { λ r. ⌜ r ≡ (if eqb k 8 then next else start) ⌝ }
+{
+    if k == 8 { next } else { start }
+}
+
+// The byte at a place of a line, behind one of a kind.
+fn advance(kinds: &[u8; 256], s: &[u8], at: usize, before: u8, start: usize) -> Step
+    requires { ⌜ (length (now kinds) ≡ 256) × (at < length (now s)) ⌝ }
+    ensures { λ r. ⌜ r ≡ stepOf (getD (now (kinds .entry)) (getD (now (s .entry)) at 0) 9) before start (at + 1) ⌝ }
+{
+    let k = kind(kinds, s[at]);
+    let sum = wide(before) + 3 * wide(k);
+    if 24 < sum {
+        return Step::Off;
+    }
+    Step::On(line_start(k, start, at + 1), k)
+}
+
+// Such a byte that may not stand there.
+fn halt(kinds: &[u8; 256], s: &[u8], at: usize, before: u8, start: usize) -> Stop
+    requires { ⌜ (length (now kinds) ≡ 256) × (at < length (now s)) ⌝ }
+    ensures { λ r. ⌜ r ≡ stopOf (getD (now (kinds .entry)) (getD (now (s .entry)) at 0) 9) before start at ⌝ }
+{
+    let k = kind(kinds, s[at]);
+    if k == 8 {
+        if before == 1 {
+            return Stop::Host(start, at);
+        }
+    }
+    Stop::Other(start)
+}
+
+// Four bytes a turn, over lines that are hosts whose last byte is not alike to the host's: these cannot match it, nor go
+// deeper than its last label. A line of 60 bytes or more is left to others.
+fn plain_lines(kinds: &[u8; 256], host: &[u8], s: &[u8], from: usize) -> Stop
+    requires { ⌜ KindsOf (now host) (now kinds) × (from ≤ length (now s)) ⌝ }
+    ensures { λ r. ⌜ Stopped (now (host .entry)) (now (s .entry)) from r ⌝ }
+{
+    let mut start = from;
+    let mut before = 8;
+    let mut i = from;
+    while 4 <= s.len() - i {
+        if 60 <= i - start {
+            return Stop::Other(start);
+        }
+        let x = i + 1;
+        let y = i + 2;
+        let z = i + 3;
+        let next = i + 4;
+        let one = advance(kinds, s, i, before, start);
+        let Step::On(b, k) = one else {
+            return halt(kinds, s, i, before, start);
+        };
+        let two = advance(kinds, s, x, k, b);
+        let Step::On(c, l) = two else {
+            return halt(kinds, s, x, k, b);
+        };
+        let three = advance(kinds, s, y, l, c);
+        let Step::On(d, m) = three else {
+            return halt(kinds, s, y, l, c);
+        };
+        let four = advance(kinds, s, z, m, d);
+        let Step::On(e, n) = four else {
+            return halt(kinds, s, z, m, d);
+        };
+        start = e;
+        before = n;
+        i = next;
+    }
+    Stop::Other(start)
+}
