@@ -8,7 +8,7 @@ mod timing;
 use facets_hub::private_label;
 use publicsuffix::{List, Psl};
 use std::{ffi::CString, hint::black_box};
-use timing::{nanoseconds, ROUNDS};
+use timing::{timed, HOW};
 
 /// libpsl by its C calls; needs Debian's package libpsl-dev.
 mod libpsl {
@@ -57,6 +57,10 @@ mod libpsl {
     }
 }
 
+fn nanoseconds<T>(call: impl FnMut() -> T) -> f64 {
+    timed(call).1
+}
+
 fn main() {
     let text = published::list();
     let table = published::table();
@@ -64,7 +68,7 @@ fn main() {
     let list: List = text.parse().expect("the published list");
     let psl = libpsl::List::load(published::LIST);
 
-    println!("Nanoseconds a lookup, median of {ROUNDS} rounds.");
+    println!("Nanoseconds a lookup: {HOW}.");
     println!("facets:       the published table, {} bytes, read on every call", table.len());
     println!("facets rules: the same without comments and blank lines, {} bytes", rules.len());
     println!("publicsuffix, libpsl: the published table, read before\n");

@@ -1,140 +1,188 @@
-//! Microseconds for one decision, cleaning and tally with the published table: the proved library, which reads
-//! body and table on every call and keeps nothing, beside a Rust program with serde_json and the crate
-//! `publicsuffix`, which reads the body on every call and read the table once before.
+//! Microseconds for one label, decision, cleaning and tally: the proved library, which reads body and table on
+//! every call and keeps nothing, beside a Rust program with serde_json and the crate `publicsuffix`, which reads
+//! the body on every call and read the table once before. Prints the table of docs/PERFORMANCE.md.
 //!
-//! `cargo bench --bench lists -- small` runs the lists of that name alone.
+//! `cargo bench --bench lists -- small deeper` prints the rows of these tables and lists alone.
 
+mod inputs;
 #[path = "../tests/hub/published.rs"]
 mod published;
 mod reference;
 mod timing;
 
-use facets_hub::{clean, decide, tally, Answer, Inputs};
+use facets_hub::{clean, decide, private_label, tally, Answer, Inputs};
+use inputs::{Body, Table, APPID, VERSION};
 use publicsuffix::List;
-use reference::Reference;
-use std::{env, hint::black_box};
-use timing::{nanoseconds, ROUNDS};
+use reference::{label_length, Reference};
+use std::{env, fmt::Debug, hint::black_box};
+use timing::{timed, HOW};
 
-const APPID: &str = "https://www.example.com/appID";
-const VERSION: (u16, u16) = (1, 0);
+const NO_LIST: &str = "-";
 
-/// A list: a native identity first and last, web origins between them, most of them kept.
-fn body(count: usize) -> String {
-    let mut ids = vec!["ios:bundle-id:com.acme.first".to_owned(), "https://first.example.com".to_owned()];
-    ids.extend((3..count - 1).map(|n| match n % 10 {
-        7 => format!("http://w{n:04}.example.com"),
-        8 => format!("https://w{n:04}.example.org"),
-        _ => format!("https://w{n:04}.example.com"),
-    }));
-    ids.extend(["https://last.example.com".to_owned(), "ios:bundle-id:com.acme.last".to_owned()]);
-    assert_eq!(ids.len(), count);
-    let ids = ids.join("\",\"");
-    format!(r#"{{"trustedFacets":[{{"version":{{"major":1,"minor":0}},"ids":["{ids}"]}}]}}"#)
+/// Decisions by their callers.
+const NATIVE_FIRST: (&str, &str) = ("decide, native, first entry", "ios:bundle-id:com.acme.first");
+const NATIVE_LAST: (&str, &str) = ("decide, native, last entry", "ios:bundle-id:com.acme.last");
+const NATIVE_NONE: (&str, &str) = ("decide, native, no entry", "ios:bundle-id:com.acme.none");
+const WEB_FIRST: (&str, &str) = ("decide, web, second entry", "https://first.example.com");
+const WEB_LAST: (&str, &str) = ("decide, web, last entry but one", "https://last.example.com");
+const WEB_NONE: (&str, &str) = ("decide, web, no entry", "https://none.example.com");
+
+/// A time, three digits of it at least.
+fn microseconds(nanoseconds: f64) -> String {
+    let decimals = if nanoseconds < 10_000.0 { 2 } else { usize::from(nanoseconds < 100_000.0) };
+    format!("{:.decimals$}", nanoseconds / 1000.0)
 }
 
-/// The most entries that such a list of at most 65,536 bytes has.
-fn full() -> usize {
-    (5..4000).rfind(|&count| body(count).len() <= 65_536).expect("a count")
+/// The rows of one table and list.
+struct Rows<'a> {
+    table: &'a Table,
+    list: &'a str,
+    /// The largest ratio of a list so far, and its row.
+    most: (f64, String),
 }
 
-/// Prints the times with the whole table, with its rules alone, and of the other program.
-fn row(list: &str, call: &str, [whole, rules, other]: [f64; 3]) {
-    let [whole, rules, other] = [whole, rules, other].map(|nanoseconds| nanoseconds / 1000.0);
-    let (whole_ratio, rules_ratio) = (whole / other, rules / other);
-    println!(
-        "{list:<8}{call:<33}{whole:>12.1}{rules:>14.1}{other:>12.1}{whole_ratio:>9.1}{rules_ratio:>13.1}"
-    );
-}
+impl Rows<'_> {
+    fn print(&self, call: &str, ours: &str, other: &str, ratio: &str) {
+        let (table, list) = (self.table.name, self.list);
+        println!("| {table:<9} | {list:<8} | {call:<31} | {ours:>8} | {other:>8} | {ratio:>8} |");
+    }
 
-/// The published table for the library, whole and its rules alone, and for the other program, read before.
-struct Tables {
-    whole: String,
-    rules: String,
-    list: List,
-}
+    /// Times both programs and asserts that they give the same.
+    fn row<T: PartialEq + Debug>(&mut self, call: &str, ours: impl FnMut() -> T, other: impl FnMut() -> T) {
+        let ((ours, time), (others, other_time)) = (timed(ours), timed(other));
+        assert_eq!(ours, others, "{}, {}, {call}", self.table.name, self.list);
+        let ratio = time / other_time;
+        self.print(call, &microseconds(time), &microseconds(other_time), &format!("{ratio:.1}"));
+        if ratio > self.most.0 && self.list != NO_LIST {
+            self.most = (ratio, format!("{}, {}", self.list, call));
+        }
+    }
 
-fn decisions(name: &str, body: &str, tables: &Tables) {
-    for (call, caller) in [
-        ("decide, native, first entry", "ios:bundle-id:com.acme.first"),
-        ("decide, native, last entry", "ios:bundle-id:com.acme.last"),
-        ("decide, native, no entry", "ios:bundle-id:com.acme.none"),
-        ("decide, web, second entry", "https://first.example.com"),
-        ("decide, web, last entry but one", "https://last.example.com"),
-        ("decide, web, no entry", "https://none.example.com"),
-    ] {
-        let ours = |table: &str| {
-            let inputs = Inputs {
-                caller: caller.as_bytes(),
-                appid: APPID.as_bytes(),
-                major: VERSION.0,
-                minor: VERSION.1,
-                record: &[2, 0, 200, 1],
-                text: b"",
-                body: body.as_bytes(),
-                table: table.as_bytes(),
+    fn label(&mut self, host: &str) {
+        let (table, list) = (self.table.text.as_bytes(), &self.table.list);
+        let call = if host.len() < 24 {
+            format!("label, {host}")
+        } else {
+            format!("label, a host of {} bytes", host.len())
+        };
+        self.row(
+            &call,
+            || private_label(black_box(host.as_bytes()), black_box(table)).len(),
+            || label_length(list, black_box(host)),
+        );
+    }
+
+    fn decision(&mut self, body: &str, (call, caller): (&str, &str)) {
+        let (table, list) = (self.table.text.as_bytes(), &self.table.list);
+        let (major, minor) = VERSION;
+        let inputs = Inputs {
+            caller: caller.as_bytes(),
+            appid: APPID.as_bytes(),
+            major,
+            minor,
+            record: &[2, 0, 200, 1],
+            text: b"",
+            body: body.as_bytes(),
+            table,
+        };
+        let ours = || match decide(black_box(&inputs)) {
+            Answer::Rule4 { place } => Some(place as usize),
+            _ => None,
+        };
+        let other = || reference(body, list).place(black_box(caller));
+        self.row(call, ours, other);
+    }
+
+    /// Cleaning into an output with room for any list, and into one that is just as long as the list.
+    fn cleaning(&mut self, body: &str) {
+        let (table, list) = (self.table.text.as_bytes(), &self.table.list);
+        let (appid, (major, minor)) = (APPID.as_bytes(), VERSION);
+        let expected = reference(body, list).clean(VERSION);
+        for (call, room) in [("clean", 65_536), ("clean, output just long enough", expected.len())] {
+            let mut out = vec![0; room];
+            let cleaned = || {
+                let length = clean(appid, major, minor, black_box(body.as_bytes()), table, &mut out);
+                length.expect("a list")
             };
-            match decide(black_box(&inputs)) {
-                Answer::Rule4 { place } => Some(place as usize),
-                _ => None,
-            }
+            self.row(call, cleaned, || reference(body, list).clean(VERSION).len());
+            // The last of the calls left its list in the output.
+            assert!(out.starts_with(expected.as_bytes()), "{}, {}", self.table.name, self.list);
+        }
+    }
+
+    fn tally(&mut self, body: &str) {
+        let (table, list) = (self.table.text.as_bytes(), &self.table.list);
+        let (appid, (major, minor)) = (APPID.as_bytes(), VERSION);
+        let ours = || {
+            let counts = tally(appid, major, minor, black_box(body.as_bytes()), table).expect("a list");
+            [counts.kept, counts.too_long, counts.other_scheme, counts.not_facet, counts.other_label]
         };
-        let other = || {
-            let reference = Reference::new(APPID, VERSION, black_box(body.as_bytes()), &tables.list)?;
-            reference.place(black_box(caller))
-        };
-        assert_eq!([ours(&tables.whole), ours(&tables.rules)], [other(); 2], "{name}, {call}");
-        let [whole, rules] = [&tables.whole, &tables.rules].map(|table| nanoseconds(|| ours(table)));
-        row(name, call, [whole, rules, nanoseconds(other)]);
+        self.row("tally", ours, || reference(body, list).tally());
     }
 }
 
-fn cleaning(name: &str, body: &str, tables: &Tables) {
-    let (appid, body, (major, minor)) = (APPID.as_bytes(), body.as_bytes(), VERSION);
-    let reference = || Reference::new(APPID, VERSION, black_box(body), &tables.list).expect("a list");
-    let mut out = vec![0; 65_536];
-    let mut cleaned = |table: &str| {
-        clean(appid, major, minor, black_box(body), table.as_bytes(), &mut out)
-            .map(|length| out[..length].to_vec())
-    };
-    for table in [&tables.whole, &tables.rules] {
-        assert_eq!(cleaned(table), Ok(reference().clean(VERSION).into_bytes()), "{name}");
-    }
-    let mut ours = |table: &str| clean(appid, major, minor, black_box(body), table.as_bytes(), &mut out);
-    let [whole, rules] = [&tables.whole, &tables.rules].map(|table| nanoseconds(|| ours(table)));
-    row(name, "clean", [whole, rules, nanoseconds(|| reference().clean(VERSION))]);
+fn reference<'a>(body: &str, list: &'a List) -> Reference<'a> {
+    Reference::new(black_box(APPID), VERSION, black_box(body.as_bytes()), list).expect("a list")
+}
 
-    let ours = |table: &str| {
-        let counts = tally(appid, major, minor, black_box(body), table.as_bytes()).expect("a list");
-        [counts.kept, counts.too_long, counts.other_scheme, counts.not_facet, counts.other_label]
-    };
-    assert_eq!([ours(&tables.whole), ours(&tables.rules)], [reference().tally(); 2], "{name}");
-    let [whole, rules] = [&tables.whole, &tables.rules].map(|table| nanoseconds(|| ours(table)));
-    row(name, "tally", [whole, rules, nanoseconds(|| reference().tally())]);
+/// The decisions that are timed with a table: all with the published one, few with the others.
+fn callers(table: &Table, list: &str) -> Vec<(&'static str, &'static str)> {
+    match (table.name, list) {
+        ("published", "small" | "middle" | "full") => {
+            vec![NATIVE_FIRST, NATIVE_LAST, NATIVE_NONE, WEB_FIRST, WEB_LAST, WEB_NONE]
+        }
+        ("deeper", _) => vec![NATIVE_FIRST, NATIVE_NONE, WEB_NONE],
+        _ => vec![NATIVE_NONE, WEB_NONE],
+    }
 }
 
 fn main() {
-    let (text, whole) = (published::list(), published::table());
-    let rules = published::rules(&whole).join("\n");
-    let tables = Tables { whole, rules, list: text.parse().expect("the published list") };
     // Cargo itself passes `--bench`.
-    let wanted: Vec<String> = env::args().skip(1).filter(|argument| !argument.starts_with('-')).collect();
-    println!("Microseconds a call, median of {ROUNDS} rounds.");
-    println!("facets:       body and published table, {} bytes, read on every call", tables.whole.len());
-    println!("facets rules: the same table without comments and blank lines, {} bytes", tables.rules.len());
-    println!("other:        serde_json and publicsuffix, the table read before\n");
-    println!(
-        "{:<8}{:<33}{:>12}{:>14}{:>12}{:>9}{:>13}",
-        "list", "call", "facets", "facets rules", "other", "ratio", "rules ratio"
-    );
-    for (name, count) in [("small", 5), ("middle", 200), ("full", full())] {
-        if !wanted.is_empty() && !wanted.iter().any(|wanted| wanted == name) {
-            continue;
-        }
-        let body = body(count);
-        println!("{name}: {count} entries, {} bytes", body.len());
-        decisions(name, &body, &tables);
-        cleaning(name, &body, &tables);
+    let arguments: Vec<String> = env::args().skip(1).filter(|argument| !argument.starts_with('-')).collect();
+    let (tables, common, worst) = (inputs::tables(), inputs::common(), inputs::worst());
+    let names = tables.iter().map(|table| table.name);
+    let names = names.chain(common.iter().chain(&worst).map(|body| body.name)).chain(["label"]);
+    let wanted = |of: &[&str], name: &str| {
+        let some: Vec<&String> =
+            arguments.iter().filter(|argument| of.contains(&argument.as_str())).collect();
+        some.is_empty() || some.iter().any(|argument| *argument == name)
+    };
+    let all: Vec<&str> = names.collect();
+    let (tables_named, lists_named) = all.split_at(tables.len());
+    for argument in &arguments {
+        assert!(all.contains(&argument.as_str()), "{argument} is none of {all:?}");
     }
-    let reading = nanoseconds(|| text.parse::<List>()) / 1000.0;
-    println!("\nReading the table once, for the other: {reading:.1}");
+
+    for table in &tables {
+        println!("table {}: {}; {} bytes", table.name, table.what, table.text.len());
+    }
+    for Body { name, what, entries, text } in common.iter().chain(&worst) {
+        println!("list {name}: {what}; {entries} entries, {} bytes", text.len());
+    }
+    println!("\nMicroseconds a call: {HOW}.\n");
+    println!("| table     | list     | call                            |   facets |    other |    ratio |");
+    println!("|-----------|----------|---------------------------------|---------:|---------:|---------:|");
+    let mut most = Vec::new();
+    for table in tables.iter().filter(|table| wanted(tables_named, table.name)) {
+        let mut rows = Rows { table, list: NO_LIST, most: (0.0, String::new()) };
+        if wanted(lists_named, "label") {
+            let longest = format!("{}{}.com", "a.".repeat(93), "l".repeat(63));
+            for host in ["www.example.com", "www.example.co.uk", "x00000.example.com", &longest] {
+                rows.label(host);
+            }
+            let (_, reading) = timed(|| table.other.parse::<List>().is_ok());
+            rows.print("reading the table before", "", &microseconds(reading), "");
+        }
+        let worst: &[Body] = if table.name == "published" { &worst } else { &[] };
+        for body in common.iter().chain(worst).filter(|body| wanted(lists_named, body.name)) {
+            rows.list = body.name;
+            for caller in callers(table, body.name) {
+                rows.decision(&body.text, caller);
+            }
+            rows.cleaning(&body.text);
+            rows.tally(&body.text);
+        }
+        most.push(format!("{}: {:.1} ({})", table.name, rows.most.0, rows.most.1));
+    }
+    println!("\nLargest ratio of a list with each table: {}", most.join("; "));
 }

@@ -13,7 +13,6 @@ pub struct Location {
     pub len: u32,
 }
 
-#[cfg(feature = "cleaning")]
 /// What cleaning reports: `refusal` is 0 where it wrote a list of `len` bytes.
 #[repr(C)]
 pub struct Cleaned {
@@ -21,7 +20,6 @@ pub struct Cleaned {
     pub len: u32,
 }
 
-#[cfg(feature = "cleaning")]
 /// What the tally reports: `refusal` is 0 where it counted.
 #[repr(C)]
 pub struct Tally {
@@ -35,7 +33,6 @@ pub struct Tally {
 
 mod c {
     use super::Location;
-    #[cfg(feature = "cleaning")]
     use super::{Cleaned, Tally};
 
     extern "C" {
@@ -92,7 +89,6 @@ mod c {
             text_len: usize,
         ) -> Location;
 
-        #[cfg(feature = "cleaning")]
         pub fn facets_clean(
             appid: *const u8,
             appid_len: usize,
@@ -106,7 +102,6 @@ mod c {
             out_len: usize,
         ) -> Cleaned;
 
-        #[cfg(feature = "cleaning")]
         pub fn facets_tally(
             appid: *const u8,
             appid_len: usize,
@@ -193,7 +188,6 @@ pub fn fetch_location(caller: &[u8], appid: &[u8], record: &[u8], text: &[u8]) -
     }
 }
 
-#[cfg(feature = "cleaning")]
 /// Writes the cleaned list to the beginning of `out`; a refusal changes no byte of it.
 pub fn clean(appid: &[u8], major: u16, minor: u16, body: &[u8], table: &[u8], out: &mut [u8]) -> Cleaned {
     // SAFETY: every pointer is valid for reads of the length beside it during the call, and that of `out`
@@ -214,7 +208,6 @@ pub fn clean(appid: &[u8], major: u16, minor: u16, body: &[u8], table: &[u8], ou
     }
 }
 
-#[cfg(feature = "cleaning")]
 /// Counts the selected entries.
 pub fn tally(appid: &[u8], major: u16, minor: u16, body: &[u8], table: &[u8]) -> Tally {
     // SAFETY: every pointer is valid for reads of the length beside it during the call.

@@ -6,7 +6,6 @@
 //! does not have, come from the library, is a panic.
 #![deny(unsafe_code, unsafe_op_in_unsafe_fn, missing_docs)]
 
-#[cfg(feature = "cleaning")]
 mod cleaning;
 mod decision;
 mod fetch;
@@ -14,14 +13,11 @@ mod fetch;
 mod ffi;
 mod label;
 mod refusal;
-#[cfg(feature = "cleaning")]
 mod tally;
 
-#[cfg(feature = "cleaning")]
 pub use cleaning::clean;
 pub use decision::{decide, decision_code, decision_code_with_place, Answer, Inputs};
 pub use fetch::fetch_location;
 pub use label::private_label;
 pub use refusal::Refusal;
-#[cfg(feature = "cleaning")]
 pub use tally::{tally, Counts};

@@ -1,30 +1,35 @@
-//! The time of a call: the median of `ROUNDS` rounds of about `ROUND` each, of fewer where a call is slow.
+//! The time of a call: the fastest of many short rounds, which other programs on the machine disturb least.
 
 use std::{
     hint::black_box,
     time::{Duration, Instant},
 };
 
-pub const ROUNDS: usize = 11;
-const ROUND: Duration = Duration::from_millis(5);
-const SLOW: Duration = Duration::from_millis(500);
+/// How times are taken, for the head of a benchmark's output.
+pub const HOW: &str =
+    "the fastest round of 0.1 s of rounds of 1 ms or one call; a call of more than 0.3 s once";
 
-/// The median nanoseconds of one call.
-pub fn nanoseconds<T>(mut call: impl FnMut() -> T) -> f64 {
+const ROUND: Duration = Duration::from_millis(1);
+const ALL: Duration = Duration::from_millis(100);
+const SLOW: Duration = Duration::from_millis(300);
+
+/// What the call gives, and the nanoseconds it takes.
+pub fn timed<T>(mut call: impl FnMut() -> T) -> (T, f64) {
     let start = Instant::now();
-    black_box(call());
+    let result = black_box(call());
     let first = start.elapsed();
+    let mut fastest = first.as_nanos() as f64;
+    if first >= SLOW {
+        return (result, fastest);
+    }
     let calls = (ROUND.as_nanos() / first.as_nanos().max(20)).max(1);
-    let rounds = if first < SLOW { ROUNDS } else { 3 };
-    let mut times: Vec<f64> = (0..rounds)
-        .map(|_| {
-            let start = Instant::now();
-            for _ in 0..calls {
-                black_box(call());
-            }
-            start.elapsed().as_nanos() as f64 / calls as f64
-        })
-        .collect();
-    times.sort_by(f64::total_cmp);
-    times[rounds / 2]
+    let start = Instant::now();
+    while start.elapsed() < ALL {
+        let round = Instant::now();
+        for _ in 0..calls {
+            black_box(call());
+        }
+        fastest = fastest.min(round.elapsed().as_nanos() as f64 / calls as f64);
+    }
+    (result, fastest)
 }

@@ -7,7 +7,6 @@ use crate::{
         Refused,
     },
 };
-#[cfg(feature = "cleaning")]
 use facets_hub::{clean, tally, Counts};
 use facets_hub::{decide, decision_code, decision_code_with_place, fetch_location, Refusal};
 
@@ -49,7 +48,6 @@ fn refusal(number: Refused) -> Refusal {
     Refusal::ALL[usize::from(number) - 1]
 }
 
-#[cfg(feature = "cleaning")]
 /// Asserts that the library cleans into these bytes like the model, byte for byte; returns length or refusal.
 pub fn cleaning(case: &Case, out: &[u8]) -> Result<usize, Refused> {
     let Case { appid, major, minor, body, table, .. } = case;
@@ -62,7 +60,6 @@ pub fn cleaning(case: &Case, out: &[u8]) -> Result<usize, Refused> {
     expected
 }
 
-#[cfg(feature = "cleaning")]
 /// Asserts that the library counts like the model; returns the counts, kept ones first, or the refusal.
 pub fn tallying(case: &Case) -> Result<[u32; 5], Refused> {
     let Case { appid, major, minor, body, table, .. } = case;
@@ -77,16 +74,4 @@ pub fn tallying(case: &Case) -> Result<[u32; 5], Refused> {
     let given = tally(appid, *major, *minor, body, table);
     assert_eq!(given, expected.map(counts).map_err(refusal), "{case:?}");
     expected
-}
-
-/// Without the library's cleaning: what the model cleans into these bytes, for the values written by hand.
-#[cfg(not(feature = "cleaning"))]
-pub fn cleaning(case: &Case, out: &[u8]) -> Result<usize, Refused> {
-    case.cleaning().clean(&mut out.to_vec())
-}
-
-/// Without the library's tally: the model's counts, for the values written by hand.
-#[cfg(not(feature = "cleaning"))]
-pub fn tallying(case: &Case) -> Result<[u32; 5], Refused> {
-    case.cleaning().tally()
 }

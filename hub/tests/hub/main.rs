@@ -3,7 +3,6 @@
 
 mod case;
 mod check;
-#[cfg(feature = "cleaning")]
 mod cleaning;
 mod decision;
 mod hand;
@@ -14,5 +13,4 @@ mod model;
 mod published;
 mod random;
 mod stack;
-#[cfg(feature = "cleaning")]
 mod whole;

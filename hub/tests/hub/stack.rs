@@ -70,8 +70,8 @@ fn used<T>(mut call: impl FnMut() -> T) -> usize {
     run.top.saturating_sub(stack.as_ptr() as usize + lowest * size_of::<u128>())
 }
 
-/// Inputs that go deepest or are longest, each in another way.
-fn worst() -> Vec<(&'static str, Case)> {
+/// Inputs that go deepest or are longest, each in another way, and the decision they come to.
+fn worst() -> Vec<(String, u16, Case)> {
     let base = || {
         // A host of 253 bytes, an AppID of 2,048, and the same as the Location of 8 redirects.
         let mut appid = format!("https://{}example.com/", "l.".repeat(121)).into_bytes();
@@ -91,48 +91,102 @@ fn worst() -> Vec<(&'static str, Case)> {
         )
         .into_bytes()
     };
-    let entry = format!("ios:bundle-id:{}", "n".repeat(255));
+    let in_ids = |value: &str| body_of(&format!("[\"{APP}\",{value}]"));
+    let native = format!("ios:bundle-id:{}", "n".repeat(255));
     let long = "https://a.example.com/".to_owned() + &"\\u0061".repeat(490);
     let longest = "\\uD83D\\uDD11".repeat(5400);
-    let mut table = b"example.com\n".repeat(1_048_576 / 12);
-    table.resize(1_048_576, b'\n');
+    let escaped = |text: &str| text.bytes().map(|byte| format!("\\u{byte:04X}")).collect::<String>();
     let host = format!("https://{}example.com", "l.".repeat(120));
-    vec![
-        ("arrays 16 deep", Case { body: member(&arrays(15)), ..base() }),
-        ("arrays 17 deep", Case { body: member(&arrays(16)), ..base() }),
-        ("arrays 30,000 deep", Case { body: arrays(30_000).into(), ..base() }),
-        ("objects 16 deep", Case { body: in_version(&objects(12)), ..base() }),
-        ("objects 17 deep", Case { body: in_version(&objects(13)), ..base() }),
-        ("longest native entry", Case { caller: entry.clone().into(), body: body(&[&entry]), ..base() }),
-        ("an entry of 512 bytes", Case { body: body_of(&format!("[\"{long}\"]")), ..base() }),
-        ("longest string", Case { body: body_of(&format!("[\"{longest}\"]")), ..base() }),
-        ("longest skipped string", Case { body: member(&format!("\"{longest}\"")), ..base() }),
-        ("largest table", Case { caller: host.clone().into(), body: body(&[&host, APP]), table, ..base() }),
-    ]
+    // 65,536 bytes: so many entries all of escapes, then blanks.
+    let escapes = |count: usize| {
+        let entries = vec![format!("\"{}\"", escaped(&host)); count].join(",");
+        let mut body = body_of(&format!("[{entries},\"{}\"]", escaped(APP)));
+        assert!(body.len() <= 65_536);
+        body.resize(65_536, b' ');
+        body
+    };
+    let table_of = |rule: &str| {
+        let mut table = rule.repeat(1_048_576 / rule.len()).into_bytes();
+        table.resize(1_048_576, b'\n');
+        table
+    };
+    let web = || Case { caller: host.clone().into(), body: body(&[&host, APP]), ..base() };
+    // The longest rules there are, deeper than the AppID's label.
+    let deepest = format!("{}l.l.example.com\n", "x.".repeat(119));
+    let worst = [
+        ("arrays 16 deep", 4, Case { body: member(&arrays(15)), ..base() }),
+        ("arrays 17 deep", 110, Case { body: member(&arrays(16)), ..base() }),
+        ("arrays 30,000 deep", 110, Case { body: arrays(30_000).into(), ..base() }),
+        ("objects 16 deep", 4, Case { body: in_version(&objects(12)), ..base() }),
+        ("objects 17 deep", 110, Case { body: in_version(&objects(13)), ..base() }),
+        ("objects 16 deep for an entry", 111, Case { body: in_ids(&objects(12)), ..base() }),
+        ("objects 17 deep for an entry", 110, Case { body: in_ids(&objects(13)), ..base() }),
+        ("longest native entry", 4, Case { caller: native.clone().into(), body: body(&[&native]), ..base() }),
+        ("an entry of 512 bytes", 114, Case { body: body_of(&format!("[\"{long}\"]")), ..base() }),
+        ("longest string", 114, Case { body: body_of(&format!("[\"{longest}\"]")), ..base() }),
+        ("longest skipped string", 4, Case { body: member(&format!("\"{longest}\"")), ..base() }),
+        ("65,536 bytes of escapes", 4, Case { body: escapes(41), ..base() }),
+        ("largest table", 4, Case { table: table_of("example.com\n"), ..web() }),
+        ("shortest lines", 4, Case { table: table_of("*\n"), ..web() }),
+        ("longest deeper rules", 4, Case { table: table_of(&deepest), ..web() }),
+        (
+            "deeper rules, escapes",
+            4,
+            Case { table: table_of("x.l.example.com\n"), body: escapes(2), ..base() },
+        ),
+    ];
+    let nested = nested().into_iter().map(|(name, code, body)| (name, code, Case { body, ..base() }));
+    worst.map(|(name, code, case)| (name.to_owned(), code, case)).into_iter().chain(nested).collect()
+}
+
+/// Bodies with 16 and 17 arrays or objects open together, in every place of a list, with any value inside.
+fn nested() -> Vec<(String, u16, Vec<u8>)> {
+    // What stands before and after, and how many are open there.
+    let places = [
+        ("the body", "", "", 0),
+        ("a member", r#"{"x":"#, r#","trustedFacets":[]}"#, 1),
+        ("trustedFacets", r#"{"trustedFacets":"#, "}", 1),
+        ("an object", r#"{"trustedFacets":["#, "]}", 2),
+        ("version", r#"{"trustedFacets":[{"version":"#, r#","ids":[]}]}"#, 3),
+        ("major", r#"{"trustedFacets":[{"version":{"major":"#, r#","minor":0},"ids":[]}]}"#, 4),
+        ("ids", r#"{"trustedFacets":[{"version":{"major":1,"minor":0},"ids":"#, "}]}", 3),
+        ("an entry", r#"{"trustedFacets":[{"version":{"major":1,"minor":0},"ids":["#, "]}]}", 4),
+    ];
+    let values = [r#""\uD83D\uDD11""#, "-1.5e-10", "false", "[]"];
+    let mut bodies = Vec::new();
+    for (place, before, after, open) in places {
+        for (start, end) in [("[", "]"), (r#"{"\uD83D\uDD11":"#, "}")] {
+            for (inner, depth) in values.into_iter().flat_map(|inner| [(inner, 16), (inner, 17)]) {
+                let levels = depth - open - usize::from(inner == "[]");
+                let value = start.repeat(levels) + inner + &end.repeat(levels);
+                let code = if depth == 17 { 110 } else { 111 + u16::from(place == "a member") };
+                let name = format!("{depth} deep by {start}..{end} for {place}, {inner} inside");
+                bodies.push((name, code, format!("{before}{value}{after}").into_bytes()));
+            }
+        }
+    }
+    bodies
 }
 
 #[test]
 fn every_call_takes_at_most_64_kib_of_stack() {
-    #[cfg(feature = "cleaning")]
-    use facets_hub::{clean, tally};
-    use facets_hub::{decision_code, decision_code_with_place, fetch_location, private_label};
+    use facets_hub::{clean, decision_code, decision_code_with_place, fetch_location, private_label, tally};
     let mut most = [
-        ("private_label", 0),
-        ("decide", 0),
-        ("decide_place", 0),
-        ("fetch_location", 0),
-        #[cfg(feature = "cleaning")]
-        ("clean", 0),
-        #[cfg(feature = "cleaning")]
-        ("tally", 0),
+        ("facets_private_label", 0),
+        ("facets_decide", 0),
+        ("facets_decide_place", 0),
+        ("facets_fetch_location", 0),
+        ("facets_clean", 0),
+        ("facets_tally", 0),
     ];
     let nothing = used(|| ());
-    for (name, case) in worst() {
-        let Case { caller, appid, record, text, table, .. } = &case;
-        #[cfg(feature = "cleaning")]
-        let Case { major, minor, body, .. } = &case;
+    let worst = worst();
+    println!("stack with {} inputs; those that took more of it than any before, in bytes,", worst.len());
+    println!("by {:?}:", most.map(|call| call.0));
+    for (name, code, case) in worst {
+        let Case { caller, appid, major, minor, record, text, body, table } = &case;
         let (inputs, mut place) = (case.decision(), 0);
-        #[cfg(feature = "cleaning")]
+        assert_eq!(decision_code(&inputs), code, "{name}");
         let mut out = vec![0; 65_536];
         let unanswered = &record[..64];
         let host = &appid[8..253 + 8];
@@ -141,19 +195,19 @@ fn every_call_takes_at_most_64_kib_of_stack() {
             used(|| decision_code(&inputs)),
             used(|| decision_code_with_place(&inputs, &mut place)),
             used(|| fetch_location(caller, appid, unanswered, text).len()),
-            #[cfg(feature = "cleaning")]
             used(|| clean(appid, *major, *minor, body, table, &mut out)),
-            #[cfg(feature = "cleaning")]
             used(|| tally(appid, *major, *minor, body, table)),
         ];
-        println!("stack, {name}: {taken:?} bytes");
+        if taken.iter().zip(&most).any(|(taken, most)| *taken > most.1) {
+            println!("    {name}: {taken:?}");
+        }
         for (most, taken) in most.iter_mut().zip(taken) {
             most.1 = most.1.max(taken);
         }
     }
-    println!("deepest use of the stack in bytes: {most:?}; no call: {nothing}");
     for (call, taken) in most {
-        assert!(taken > 0 && taken <= MOST, "{call} takes {taken} bytes of stack");
+        println!("{call}: at most {taken} bytes of stack, {:.1} KiB", taken as f64 / 1024.0);
+        assert!(taken > nothing && taken <= MOST, "{call} takes {taken} bytes of stack");
     }
 }
 

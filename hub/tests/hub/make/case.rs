@@ -7,7 +7,7 @@ use super::{
     json::Style,
     list,
     record::{self, Answer, Redirect},
-    table::{bad_table, damage, table},
+    table::{bad_table, damage, table, table_near},
 };
 use crate::{case::Case, model::identifier as model, random::Random};
 
@@ -56,7 +56,6 @@ pub fn decision(random: &mut Random, wanted: usize) -> Case {
 }
 
 /// Inputs for cleaning and tally, for the outcome of this place in `CLEANINGS`.
-#[cfg_attr(not(feature = "cleaning"), allow(dead_code))]
 pub fn cleaning(random: &mut Random, wanted: usize) -> Case {
     let plan = Plan { order: &CLEANINGS, wanted };
     let host = host(random);
@@ -115,7 +114,11 @@ fn list(random: &mut Random, plan: &Plan, host: &str, case: &mut Case) -> Vec<St
     if plan.has(random, 109) {
         case.body = list::lengthen(random, std::mem::take(&mut case.body));
     }
-    case.table = if plan.has(random, 113) { bad_table(random) } else { table(random) };
+    case.table = match plan.has(random, 113) {
+        true => bad_table(random),
+        false if random.chance(50) => table_near(random, host),
+        false => table(random),
+    };
     entries
 }
 

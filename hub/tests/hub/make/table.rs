@@ -1,5 +1,6 @@
 //! Names, rules and tables of rules.
 
+use super::identifier::relative;
 use crate::random::Random;
 
 /// Few labels, so that hosts meet rules often.
@@ -80,6 +81,23 @@ pub fn join(random: &mut Random, lines: &[Vec<u8>]) -> Vec<u8> {
 /// A table of up to six lines, none of them bad.
 pub fn table(random: &mut Random) -> Vec<u8> {
     let lines: Vec<Vec<u8>> = (0..random.below(7)).map(|_| line(random)).collect();
+    lines.join(&b'\n')
+}
+
+/// A table of which some rules are about hosts near this one, so that rules go deeper than its private label.
+pub fn table_near(random: &mut Random, host: &str) -> Vec<u8> {
+    let mut lines = vec![table(random)];
+    for _ in 0..random.below(4) {
+        let near = relative(random, host);
+        let near = if random.chance(50) { relative(random, &near) } else { near };
+        // A name that is too long, or no host, would make the table bad.
+        if near.len() < 100 && near.split('.').all(|label| label.len() < 64) {
+            let mark = if near.contains('.') { random.pick(&["", "", "*.", "!"]) } else { "" };
+            lines.push(format!("{mark}{near}").into_bytes());
+        }
+    }
+    let first = random.below(lines.len());
+    lines.rotate_left(first);
     lines.join(&b'\n')
 }
 

@@ -5,10 +5,35 @@ mod rereading;
 
 use crate::{
     case::Case,
-    make::identifier::{facet, relative},
+    make::{
+        identifier::{bad_url, facet, relative, url},
+        record::{record, spoil, Answer, Redirect},
+    },
     random::Random,
 };
-use facets_hub::{clean, decision_code, decision_code_with_place};
+use facets_hub::{clean, decision_code, decision_code_with_place, fetch_location, Refusal};
+use std::collections::BTreeMap;
+
+/// A record and its text: mostly of an answered list, else of any other fetch.
+fn fetched(random: &mut Random, host: &str) -> (Vec<u8>, Vec<u8>) {
+    let header = u8::from(!random.chance(5));
+    let hop = |random: &mut Random| {
+        let location = if random.chance(3) { bad_url(random, host) } else { url(random, host) };
+        Redirect { status: 302, header, location: location.into_bytes() }
+    };
+    let hops: Vec<Redirect> = (0..random.below(3)).map(|_| hop(random)).collect();
+    let answer = match random.below(30) {
+        0 => None,
+        1 => Some(Answer { status: 404, kind: 1 }),
+        2 => Some(Answer { status: 200, kind: 0 }),
+        _ => Some(Answer { status: 200, kind: 1 }),
+    };
+    let (mut record, mut text) = record(random, &hops, answer);
+    if random.chance(3) {
+        spoil(random, &mut record, &mut text);
+    }
+    (record, text)
+}
 
 /// Callers for a list, each once: its entries, facets or not, and others.
 fn callers(random: &mut Random, host: &str, entries: &[&String]) -> Vec<Vec<u8>> {
@@ -22,17 +47,35 @@ fn callers(random: &mut Random, host: &str, entries: &[&String]) -> Vec<Vec<u8>>
     callers
 }
 
-/// The decision for a caller, by both calls: code, and place where there is one.
+/// The decision for a caller, by both calls: code, and place where there is one. The fetch location, which
+/// takes no body, is empty unless the decision is fetch.
 fn decided(case: &Case, caller: &[u8]) -> (u16, Option<u32>) {
     let inputs = facets_hub::Inputs { caller, ..case.decision() };
     let mut place = u32::MAX;
     let code = decision_code_with_place(&inputs, &mut place);
-    assert_eq!(code, decision_code(&inputs));
-    (code, Some(place).filter(|&place| place != u32::MAX))
+    assert_eq!(code, decision_code(&inputs), "{case:?}");
+    assert_eq!(code == 4, place != u32::MAX, "{case:?}");
+    let location = fetch_location(caller, &case.appid, &case.record, &case.text);
+    assert_eq!(code == 5, !location.is_empty(), "{case:?}");
+    (code, Some(place).filter(|_| code == 4))
+}
+
+/// Asserts that both bodies decide alike for these callers, and counts the answers.
+fn decide_alike(one: &Case, other: &Case, callers: &[Vec<u8>], codes: &mut BTreeMap<u16, usize>) {
+    for caller in callers {
+        let decision = decided(one, caller);
+        assert_eq!(decided(other, caller), decision, "{}\n{one:?}\n{other:?}", caller.escape_ascii());
+        *codes.entry(decision.0).or_default() += 1;
+    }
 }
 
 /// What cleaning into a copy of these bytes gives, and the bytes afterwards.
-fn cleaned(case: &Case, out: &[u8]) -> (Result<usize, facets_hub::Refusal>, Vec<u8>) {
+fn cleaned(case: &Case, out: &[u8]) -> (Result<usize, Refusal>, Vec<u8>) {
     let mut out = out.to_vec();
     (clean(&case.appid, case.major, case.minor, &case.body, &case.table, &mut out), out)
+}
+
+/// An output of any bytes.
+fn output(random: &mut Random, length: usize) -> Vec<u8> {
+    (0..length).map(|_| random.next() as u8).collect()
 }

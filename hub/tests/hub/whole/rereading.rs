@@ -1,55 +1,68 @@
 //! A cleaned list, read again as a body: every caller's decision and the cleaned bytes stay.
 
-use super::{callers, cleaned, decided};
+use super::{callers, cleaned, decide_alike, fetched, output};
 use crate::{
     case::Case,
-    make::{
-        case::{self, CLEANINGS},
-        record::answer,
-    },
+    make::case::{self, CLEANINGS},
     model::{identifier, list},
     random::Random,
 };
-use facets_hub::{tally, Counts};
+use facets_hub::{tally, Counts, Refusal};
 use std::collections::BTreeMap;
 
 const ROUNDS: usize = 30_000;
+
+/// Asserts that the list, which is the case's body, is cleaned to itself, and only where the output is as long.
+fn clean_again(random: &mut Random, case: &Case) {
+    let list = &case.body;
+    for length in [list.len(), list.len() + 1, list.len() + 2 + random.below(60)] {
+        let before = output(random, length);
+        let (cleaning, after) = cleaned(case, &before);
+        assert_eq!(cleaning, Ok(list.len()), "{case:?}");
+        assert_eq!(after[..list.len()], list[..], "{case:?}");
+        assert_eq!(after[list.len()..], before[list.len()..], "{case:?}");
+    }
+    for length in [list.len() - 1, random.below(list.len())] {
+        let before = output(random, length);
+        assert_eq!(cleaned(case, &before), (Err(Refusal::Full), before), "{case:?}");
+    }
+}
 
 #[test]
 fn a_cleaned_list_decides_and_cleans_like_the_body_it_came_from() {
     let mut random = Random::new(6);
     let mut codes: BTreeMap<u16, usize> = BTreeMap::new();
-    let (mut lists, mut changed) = (0, 0);
+    let (mut lists, mut changed, mut empty) = (0, 0, 0);
     for _ in 0..ROUNDS {
         let case = case::cleaning(&mut random, CLEANINGS.len() - 1);
-        let case = Case { record: answer(200, 1), ..case };
-        let (Ok(length), mut list) = cleaned(&case, &[b'#'; 8192]) else {
+        let (Ok(length), mut list) = cleaned(&case, &[b'#'; 65_536]) else {
             continue;
         };
         list.truncate(length);
         lists += 1;
         changed += usize::from(list != case.body);
-        let again = Case { body: list.clone(), ..case.clone() };
-        assert_eq!(cleaned(&again, &vec![b'#'; length]), (Ok(length), list), "{case:?}");
+        empty += usize::from(list.ends_with(b":[]}]}"));
+        let host = identifier::url_host(&case.appid).and_then(|host| String::from_utf8(host).ok());
+        let host = host.expect("an HTTPS URL");
+        let (record, text) = fetched(&mut random, &host);
+        let case = Case { record, text, ..case };
+        let again = Case { body: list, ..case.clone() };
+        clean_again(&mut random, &again);
 
         let counts = |case: &Case| tally(&case.appid, case.major, case.minor, &case.body, &case.table);
         let kept = counts(&case).expect("a list").kept;
         assert_eq!(counts(&again), Ok(Counts { kept, ..Counts::default() }), "{case:?}");
 
-        let entries = list::selected(&case.body, case.major, case.minor).expect("a list");
-        let entries: Vec<String> =
-            entries.into_iter().filter_map(|entry| String::from_utf8(entry).ok()).collect();
-        let host = identifier::url_host(&case.appid).and_then(|host| String::from_utf8(host).ok());
-        for caller in callers(&mut random, &host.expect("an HTTPS URL"), &entries.iter().collect::<Vec<_>>())
-        {
-            let decision = decided(&case, &caller);
-            assert_eq!(decided(&again, &caller), decision, "{}\n{case:?}", caller.escape_ascii());
-            *codes.entry(decision.0).or_default() += 1;
-        }
+        // The entries as they stood in the body, discarded ones too, and as they stand in the list.
+        let entries = [&case, &again].map(|case| list::selected(&case.body, case.major, case.minor));
+        let entries = entries.into_iter().flat_map(|entries| entries.expect("a list"));
+        let entries: Vec<String> = entries.filter_map(|entry| String::from_utf8(entry).ok()).collect();
+        let callers = callers(&mut random, &host, &entries.iter().collect::<Vec<_>>());
+        decide_alike(&case, &again, &callers, &mut codes);
     }
-    println!("{lists} cleaned lists, {changed} unlike their bodies; decisions {codes:?}");
-    assert!(lists >= 10_000 && changed >= 10_000);
-    for code in [3, 4, 101, 114] {
+    println!("{lists} cleaned lists, {changed} unlike their bodies, {empty} empty; decisions {codes:?}");
+    assert!(lists >= 10_000 && changed >= 10_000 && empty >= 1_000);
+    for code in [3, 4, 5, 101, 104, 105, 106, 107, 108, 114] {
         assert!(codes.get(&code) >= Some(&1_000), "decisions {code}");
     }
 }
