@@ -288,7 +288,7 @@ table-read : (table : Bytes) → length table ≤ 1048576 → readLines (splitAt
 unfolding readTable
 table-read table l = rw (le-leb (length table) 1048576 l)
 
-wrong-best : (hl : List Bytes) (o : Option (List Rule)) → Bad ≡ bestOf hl o → Wrong ≡ depthsOf hl o
+pub wrong-best : (hl : List Bytes) (o : Option (List Rule)) → Bad ≡ bestOf hl o → Wrong ≡ depthsOf hl o
 unfolding bestOf sizes depthsOf
 wrong-best hl none e = refl
 wrong-best hl (some rs) e = let z : _≡_ {A = ℕ} 0 1 = cc in absurd (omega arith)
@@ -364,7 +364,7 @@ module _ (table host : Bytes) where
   start-owner (bad-table t) e = let z : _≡_ {A = ℕ} 0 1 = cc in absurd (omega arith)
   start-owner {start} (owner-is {start = i} t L) e = let z : i ≡ start = cc in rw (← z) (L .place)
 
-  to-best : (e m d : ℕ) (o : Option (List Rule)) → Found e m d ≡ depthsOf (labels host) o → Sizes e m ≡ bestOf (labels host) o
+  pub to-best : (e m d : ℕ) (o : Option (List Rule)) → Found e m d ≡ depthsOf (labels host) o → Sizes e m ≡ bestOf (labels host) o
   unfolding bestOf sizes depthsOf
   to-best e m d none f = let z : _≡_ {A = ℕ} 0 1 = cc in absurd (omega arith)
   to-best e m d (some rs) f =

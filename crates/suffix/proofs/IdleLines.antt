@@ -51,7 +51,7 @@ idle-line host table at to h g b d =
 -- ---- comments and empty lines
 
 module _ (host table : Bytes) (at : ℕ) (h : at < length table) where
-  idle-empty : getD table at 0 ≡ 10 → Idle host table at (at + 1)
+  pub idle-empty : getD table at 0 ≡ 10 → Idle host table at (at + 1)
   unfolding takeWhile inContent inLine
   idle-empty e =
       let l : drop at table ≡ 10 ∷ drop (suc at) table = drop-cons table at 0 h ∙ rw e in
@@ -67,7 +67,7 @@ module _ (host table : Bytes) (at : ℕ) (h : at < length table) where
         let q : at + 2 ≡ suc (suc at) = omega arith in
         drop-cons table at 0 h ∙ rw (e, q, drop-cons table (suc at) 0 m, ← p, f)
 
-    idle-comment : {to : ℕ} → to ≡ at + 2 + length (takeWhile inLine (drop (at + 2) table)) → Idle host table at (to + 1)
+    pub idle-comment : {to : ℕ} → to ≡ at + 2 + length (takeWhile inLine (drop (at + 2) table)) → Idle host table at (to + 1)
     unfolding takeWhile inContent inLine isBlank beginsWith
     idle-comment {to} g =
         let i : to ≡ at + length (takeWhile inLine (drop at table)) = rw two (omega (arith, g)) in

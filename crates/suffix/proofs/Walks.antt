@@ -224,7 +224,7 @@ module _ {host table : Bytes} {from start i p room : ℕ} (W : Walk host table f
       let L = line-is W l e f in
       let b = last-before table start i (W .inside) f in
       let F = finds-unlike host (take (i - start) (drop start table)) (L .host) (ap isPlain b ∙ f)
-          (λ y. unlike-of (lastByte host) (prevOf table start i) p prev-is z (ap lowerByte (sym b) ∙ y)) in
+      (λ y. unlike-of (lastByte host) (prevOf table start i) p prev-is z (ap lowerByte (sym b) ∙ y)) in
       idle-on host table (W .idle) (idle-line host table start i (omega (arith, W .onward, W .inside)) (L .ends) (rw (L .whole) (F .best)) (rw (L .whole) (F .depth)))
 
   byte-passed : (getD table i 0 ≡ 10 → ⊥) → p + 3 * kindOf (lastByte host) (getD table i 0) ≤ 24 → Walk host table from start (i + 1) (kindOf (lastByte host) (getD table i 0)) room
@@ -264,7 +264,7 @@ module _ {host table kinds : Bytes} (K : KindsOf host kinds) {from start i p roo
   walk-on : Walk host table from start i p (suc room) → {q : Step} {s n : ℕ} (j : ℕ) → j ≡ i + 1 → q ≡ On s n → q ≡ stepOf (getD kinds (getD table i 0) 9) p start (i + 1) → Walk host table from s j n room
   walk-on W {s = s} {n = n} j z e f =
       let t : stepOf (kindOf (lastByte host) (getD table i 0)) p start (i + 1) ≡ On s n =
-          sym (rw (K .is (getD table i 0)) at f) ∙ e in
+      sym (rw (K .is (getD table i 0)) at f) ∙ e in
       rw z (walk-told W l (step-told (kindOf (lastByte host) (getD table i 0)) p start (i + 1) s n t))
 
   walk-stop : Walk host table from start i p room → {r : Stop} → r ≡ stopOf (getD kinds (getD table i 0) 9) p start i → Stopped host table from r

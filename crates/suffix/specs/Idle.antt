@@ -8,7 +8,7 @@ use Rattle.ascii.specs.Ascii.{Bytes, if_then_else_, takeWhile, splitAt, isDigit
 use Rattle.suffix.specs.Host.{labels, isHost}
 use Rattle.suffix.specs.Suffix.{readLines}
 use Rattle.suffix.specs.Pass.{bestOf, inLine, inContent}
-use Rattle.suffix.specs.Depth.{linesDepth}
+use Rattle.suffix.specs.Depth.{linesDepth, Tail}
 use Rattle.suffix.specs.declared.skips.Step.{Step}
 use Rattle.suffix.specs.declared.skips.Step.the-variants.{On, Off}
 use Rattle.suffix.specs.declared.skips.Stop.{Stop}
@@ -26,6 +26,10 @@ pub record Skipped (table : Bytes) (from to : ℕ) : Type 0 where
   pub onward : from ≤ to
   pub inside : to ≤ length table + 1
   pub is : (host : Bytes) → Idle host table from to
+
+-- a line goes on: r told so, and b is of it too
+unfoldable pub stillIn : Bool → ℕ → Bool
+stillIn r b = r && inLine b
 
 unfoldable pub lastByte : Bytes → ℕ
 lastByte s = getD s (length s - 1) 0
@@ -69,3 +73,10 @@ pub record HostLine (table : Bytes) (start to : ℕ) : Type 0 where
 pub data Stopped (host table : Bytes) (from : ℕ) : Stop → Type 0 where
   at-host : {start to : ℕ} → Idle host table from start → HostLine table start to → Stopped host table from (Host start to)
   at-other : {start : ℕ} → Idle host table from start → start ≤ length table → Stopped host table from (Other start)
+
+-- what the pass over such lines is lent: the kinds for the host, its last label, and a place of a table that is not too long
+pub record Passes (kinds host tail table : Bytes) (from : ℕ) : Type 0 where
+  pub kinds-are : KindsOf host kinds
+  pub tail-is : Tail host tail
+  pub inside : from ≤ length table + 1
+  pub short : length table ≤ 1048576

@@ -1,13 +1,15 @@
 // Lines of the table that find nothing for a host, passed over byte after byte.
+use crate::hosts;
 ghost use mathlib.Core.Path.{_≡_};
-ghost use mathlib.Core.Bool.{true};
+ghost use mathlib.Core.Bool.{_||_, not};
 ghost use Prim.Native.Nat.{_+_, _≤_, _<_};
-ghost use lib.ListN.{length, getD};
+ghost use lib.ListN.{length, getD, take, drop};
 ghost use lib.Dec.{eqb};
-ghost use Rattle.ascii.specs.Ascii.{if_then_else_};
+ghost use Rattle.ascii.specs.Ascii.{if_then_else_, all, takeWhile};
 ghost use Rattle.ascii.specs.Class.{Classifies};
-ghost use Rattle.suffix.specs.Depth.{Tail};
-ghost use Rattle.suffix.specs.Idle.{Idle, Skipped, lastByte, kindOf, KindsOf, stepOf, stopOf, Stopped};
+ghost use Rattle.suffix.specs.Place.{endsAtLabel};
+ghost use Rattle.suffix.specs.Pass.{inLine};
+ghost use Rattle.suffix.specs.Idle.{Idle, Skipped, stillIn, lastByte, kindOf, KindsOf, stepOf, stopOf, Stopped, Passes};
 
 // One byte on: where its line begins, and the byte's kind.
 pub enum Step {
@@ -152,4 +154,149 @@ fn plain_lines(kinds: &[u8; 256], host: &[u8], s: &[u8], from: usize) -> Stop
         i = next;
     }
     Stop::Other(start)
+}
+
+fn in_line(b: u8) -> bool
+    ensures { λ r. ⌜ r ≡ inLine b ⌝ }
+{
+    if b == 10 {
+        return false;
+    }
+    true
+}
+
+fn still(r: bool, b: u8) -> bool
+    ensures { λ x. ⌜ x ≡ stillIn r b ⌝ }
+{
+    if b == 10 { false } else { r }
+}
+
+// The line does not end in the sixteen bytes at a place.
+fn goes_on(s: &[u8], from: usize) -> bool
+    requires { ⌜ from + 16 ≤ length (now s) ⌝ }
+    ensures { λ r. ⌜ r ≡ all inLine (take 16 (drop from (now (s .entry)))) ⌝ }
+{
+    let mut r = true;
+    let mut k = 0;
+    while k < 16 {
+        r = still(r, s[from + k]);
+        k += 1;
+    }
+    r
+}
+
+// A place of the same line, near its end: sixteen bytes a turn.
+fn near_end(s: &[u8], from: usize) -> usize
+    ensures { λ r. ⌜ r + length (takeWhile inLine (drop r (now (s .entry)))) ≡ from + length (takeWhile inLine (drop from (now (s .entry)))) ⌝ }
+{
+    let mut i = from;
+    while i < s.len() {
+        if s.len() - i < 16 {
+            return i;
+        }
+        if goes_on(s, i) {
+            i += 16;
+        } else {
+            return i;
+        }
+    }
+    i
+}
+
+// Where a line ends: its LF, or the end.
+pub(crate) fn line_end(s: &[u8], from: usize) -> usize
+    ensures { λ r. ⌜ r ≡ from + length (takeWhile inLine (drop from (now (s .entry)))) ⌝ }
+{
+    let mut i = near_end(s, from);
+    while i < s.len() {
+        if in_line(s[i]) {
+            i += 1;
+        } else {
+            return i;
+        }
+    }
+    i
+}
+
+// Behind the line at a place, where it is empty or a comment; the place itself where it is another.
+fn next_line(s: &[u8], at: usize) -> usize
+    requires { ⌜ (at < length (now s)) × (length (now s) ≤ 1048576) ⌝ }
+    ensures { λ r. ⌜ Skipped (now (s .entry)) at r ⌝ }
+{
+    if s[at] == 10 {
+        return at + 1;
+    }
+    if s.len() - at < 2 {
+        return at;
+    }
+    if s[at] != 47 {
+        return at;
+    }
+    if s[at + 1] != 47 {
+        return at;
+    }
+    line_end(s, at + 2) + 1
+}
+
+// Empty lines and comments.
+fn skip_comments(s: &[u8], from: usize) -> usize
+    requires { ⌜ (from ≤ length (now s)) × (length (now s) ≤ 1048576) ⌝ }
+    ensures { λ r. ⌜ Skipped (now (s .entry)) from r ⌝ }
+{
+    let mut at = from;
+    while at < s.len() {
+        let next = next_line(s, at);
+        if next == at {
+            return at;
+        }
+        at = next;
+    }
+    at
+}
+
+// The host w is no end of the host, and the host's last label no end of w.
+fn is_idle(host: &[u8], tail: &[u8], w: &[u8]) -> bool
+    ensures { λ r. ⌜ r ≡ not (endsAtLabel (now (w .entry)) (now (host .entry)) || endsAtLabel (now (tail .entry)) (now (w .entry))) ⌝ }
+{
+    if hosts::ends_at_label(host, w) {
+        return false;
+    }
+    if hosts::ends_at_label(w, tail) {
+        return false;
+    }
+    true
+}
+
+// The first line that may find something for the host.
+pub(crate) fn idle_lines(
+    kinds: &[u8; 256],
+    host: &[u8],
+    tail: &[u8],
+    s: &[u8],
+    from: usize,
+) -> usize
+    requires { ⌜ Passes (now kinds) (now host) (now tail) (now s) from ⌝ }
+    ensures { λ r. ⌜ Idle (now (host .entry)) (now (s .entry)) from r ⌝ }
+{
+    let mut at = from;
+    while at < s.len() {
+        let found = plain_lines(kinds, host, s, at);
+        match found {
+            Stop::Host(start, to) => {
+                if is_idle(host, tail, &s[start..to]) {
+                    at = to + 1;
+                } else {
+                    return start;
+                }
+            }
+            Stop::Other(start) => {
+                let next = skip_comments(s, start);
+                if next == start {
+                    return start;
+                }
+                at = next;
+            }
+        }
+    }
+    at
 }

@@ -17,12 +17,21 @@ kinds-spec =
     (tie.spec
     Inv-loop
     μ-loop
-    {- last-byte-requires -} (λ c κs. search kind-laws)
-    {- loop-holds -} (λ c. search kind-laws)
-    {- cast-kind-of -} (λ c. search kind-laws)
-    {- kind-of-requires -} (λ c κs. search kind-laws)
-    {- array-write-kinds -} (λ c. search kind-laws)
-    {- add-i -} (λ c. search kind-laws)
-    {- loop-less -} (λ c. search kind-laws)
-    {- loop-again -} (λ c. search kind-laws)
-    {- returns -} (λ c. search kind-laws))
+    {- last-byte-requires -}
+    (λ c κs. search kind-laws)
+    {- loop-holds -}
+    (λ c. search kind-laws)
+    {- cast-kind-of -}
+    (λ c. search kind-laws)
+    {- kind-of-requires -}
+    (λ c κs. search kind-laws)
+    {- array-write-kinds -}
+    (λ c. search kind-laws)
+    {- add-i -}
+    (λ c. search kind-laws)
+    {- loop-less -}
+    (λ c. search kind-laws)
+    {- loop-again -}
+    (λ c. search kind-laws)
+    {- returns -}
+    (λ c. search kind-laws))

@@ -18,34 +18,65 @@ plain-lines-spec =
     (tie.spec
     Inv-loop
     μ-loop
-    {- loop-holds -} (λ c. search walk-laws)
-    {- sub-loop -} (λ c. search walk-laws)
-    {- sub-if1 -} (λ c. search walk-laws)
-    {- returns -} (λ c. search walk-laws)
-    {- add-x -} (λ c. search walk-laws)
-    {- add-y -} (λ c. search walk-laws)
-    {- add-z -} (λ c. search walk-laws)
-    {- add-next -} (λ c. search walk-laws)
-    {- advance-requires -} (λ c κs. search walk-laws)
-    {- enum-known-one -} (λ c. search walk-laws)
-    {- enum-told -} (λ c. search walk-laws)
-    {- halt-requires -} (λ c κs. search walk-laws)
-    {- returns-2 -} (λ c. search walk-laws)
-    {- advance-requires-2 -} (λ c κs. search walk-laws)
-    {- enum-known-two -} (λ c. search walk-laws)
-    {- enum-told-2 -} (λ c. search walk-laws)
-    {- halt-requires-2 -} (λ c κs. search walk-laws)
-    {- returns-3 -} (λ c. search walk-laws)
-    {- advance-requires-3 -} (λ c κs. search walk-laws)
-    {- enum-known-three -} (λ c. search walk-laws)
-    {- enum-told-3 -} (λ c. search walk-laws)
-    {- halt-requires-3 -} (λ c κs. search walk-laws)
-    {- returns-4 -} (λ c. search walk-laws)
-    {- advance-requires-4 -} (λ c κs. search walk-laws)
-    {- enum-known-four -} (λ c. search walk-laws)
-    {- enum-told-4 -} (λ c. search walk-laws)
-    {- halt-requires-4 -} (λ c κs. search walk-laws)
-    {- returns-5 -} (λ c. search walk-laws)
-    {- loop-less -} (λ c. search walk-laws)
-    {- loop-again -} (λ c. search walk-laws)
-    {- returns-6 -} (λ c. search walk-laws))
+    {- loop-holds -}
+    (λ c. search walk-laws)
+    {- sub-loop -}
+    (λ c. search walk-laws)
+    {- sub-if1 -}
+    (λ c. search walk-laws)
+    {- returns -}
+    (λ c. search walk-laws)
+    {- add-x -}
+    (λ c. search walk-laws)
+    {- add-y -}
+    (λ c. search walk-laws)
+    {- add-z -}
+    (λ c. search walk-laws)
+    {- add-next -}
+    (λ c. search walk-laws)
+    {- advance-requires -}
+    (λ c κs. search walk-laws)
+    {- enum-known-one -}
+    (λ c. search walk-laws)
+    {- enum-told -}
+    (λ c. search walk-laws)
+    {- halt-requires -}
+    (λ c κs. search walk-laws)
+    {- returns-2 -}
+    (λ c. search walk-laws)
+    {- advance-requires-2 -}
+    (λ c κs. search walk-laws)
+    {- enum-known-two -}
+    (λ c. search walk-laws)
+    {- enum-told-2 -}
+    (λ c. search walk-laws)
+    {- halt-requires-2 -}
+    (λ c κs. search walk-laws)
+    {- returns-3 -}
+    (λ c. search walk-laws)
+    {- advance-requires-3 -}
+    (λ c κs. search walk-laws)
+    {- enum-known-three -}
+    (λ c. search walk-laws)
+    {- enum-told-3 -}
+    (λ c. search walk-laws)
+    {- halt-requires-3 -}
+    (λ c κs. search walk-laws)
+    {- returns-4 -}
+    (λ c. search walk-laws)
+    {- advance-requires-4 -}
+    (λ c κs. search walk-laws)
+    {- enum-known-four -}
+    (λ c. search walk-laws)
+    {- enum-told-4 -}
+    (λ c. search walk-laws)
+    {- halt-requires-4 -}
+    (λ c κs. search walk-laws)
+    {- returns-5 -}
+    (λ c. search walk-laws)
+    {- loop-less -}
+    (λ c. search walk-laws)
+    {- loop-again -}
+    (λ c. search walk-laws)
+    {- returns-6 -}
+    (λ c. search walk-laws))

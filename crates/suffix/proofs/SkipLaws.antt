@@ -1,0 +1,307 @@
+-- The ends of lines, comments, and the pass over lines that find nothing. Assumes nothing.
+use mathlib.Core.Path.{_≡_, refl, sym, ap, _∙_}
+use mathlib.Core.Bool.{Bool, true, false, _&&_, _||_, not, and-false, and-true, or-true, and-eq-true-iff}
+use mathlib.Core.List.{List, [], _∷_}
+use mathlib.Core.Option.{Option, none, some}
+use Prim.Native.Nat.{ℕ, zero, suc, _+_, _-_, _≤_, _<_, max}
+use native.Mathlib.Omega.{arith}
+use native.Mathlib.Numerals.{add-one}
+use mir.Val.{Fits}
+use mir.Syntax.{w64}
+use lib.ListN.{length, getD, take, drop, length-drop}
+use lib.Seq.{drop-cons, drop-drop, drop-nil}
+use borrow.Author.Needs.{needs}
+use Rattle.ascii.specs.Ascii.{Bytes, if_then_else_, all, filterBy, takeWhile, lastOf, splitAt}
+use Rattle.ascii.specs.Class.{Classifies}
+use Rattle.ascii.proofs.Scan.{scan-end, scan-stop, scan-more, scan-from, scan-to}
+use Rattle.suffix.specs.Host.{labels, isHost}
+use Rattle.suffix.specs.Place.{Stands, endsAtLabel}
+use Rattle.suffix.specs.Suffix.{Rule, readTable, matches}
+use Rattle.suffix.specs.Pass.{maxLabels, sizes, bestOf, readLine, inLine, inContent}
+use Rattle.suffix.specs.Depth.{deepest, lineDepth, linesDepth, depthsOf, Tail}
+use Rattle.suffix.specs.Idle.{Idle, Skipped, stillIn, KindsOf, HostLine, Stopped, at-host, at-other, Passes}
+use Rattle.suffix.specs.declared.Best.{Best}
+use Rattle.suffix.specs.declared.Best.the-variants.{Bad, Sizes}
+use Rattle.suffix.specs.declared.Depths.{Depths}
+use Rattle.suffix.specs.declared.Depths.the-variants.{Wrong, Found}
+use Rattle.suffix.specs.declared.skips.Stop.{Stop}
+use Rattle.suffix.specs.declared.skips.Stop.the-variants.{Host, Other}
+use Rattle.suffix.proofs.Passes.{line-lf, line-other, Pass, pass-fits}
+use Rattle.suffix.proofs.Climbs.{Deeps, deeps-starts, deeps-more, deeps-bad, deeps-ends, tail-is, wrong-best, to-best}
+use Rattle.suffix.proofs.IdleLines.{idle-none, idle-on, idle-line, idle-empty, idle-comment, Finds, finds-none}
+
+-- ---- the end of a line
+
+pub still-lf : (r : Bool) (b : ℕ) → b ≡ 10 → false ≡ stillIn r b
+unfolding stillIn
+still-lf r b e = rw (← line-lf b e, and-false)
+
+pub still-on : (r : Bool) (b : ℕ) → (b ≡ 10 → ⊥) → r ≡ stillIn r b
+unfolding stillIn
+still-on r b n = rw (← line-other b n, and-true)
+
+-- the bytes of a block before k go on as r tells
+pub record Block (s : Bytes) (from : ℕ) (r : Bool) (k : ℕ) : Type 0 where
+  pub most : k ≤ 16
+  pub is : (r && all inLine (take (16 - k) (drop (from + k) s))) ≡ all inLine (take 16 (drop from s))
+
+pub block-starts : (s : Bytes) (from : ℕ) → Block s from true 0
+block-starts s from = record { most = omega arith; is = let z : from + 0 ≡ from = omega arith in rw z }
+
+and-and : (a b c : Bool) → (a && b && c) ≡ (a && (b && c))
+and-and true b c = refl
+and-and false b c = refl
+
+module _ {s : Bytes} {from k : ℕ} {r : Bool} (B : Block s from r k) where
+  pub block-ends : 16 ≤ k → r ≡ all inLine (take 16 (drop from s))
+  block-ends h = sym (rw z (unfold all in (and-true r))) ∙ B .is
+    where
+      z : 16 - k ≡ 0
+      z = omega arith
+
+  pub block-more : {y : Bool} → y ≡ stillIn r (getD s (from + k) 0) → k < 16 → from + 16 ≤ length s → Block s from y (k + 1)
+  block-more {y} f h l = record { most = omega arith; is = stepped ∙ B .is }
+    where
+      stepped : (y && all inLine (take (16 - (k + 1)) (drop (from + (k + 1)) s))) ≡ (r && all inLine (take (16 - k) (drop (from + k) s)))
+      stepped = unfold all stillIn in (
+          let m : from + k < length s = omega arith in
+          let n : 16 - k ≡ suc (16 - (k + 1)) = omega arith in
+          let o : from + (k + 1) ≡ suc (from + k) = omega arith in
+          rw (f, drop-cons s (from + k) 0 m, n, o) (and-and r (inLine (getD s (from + k) 0)) (all inLine (take (16 - (k + 1)) (drop (suc (from + k)) s))))
+          )
+
+block-whole : (n : ℕ) (l : Bytes) → n ≤ length l → all inLine (take n l) ≡ true → length (takeWhile inLine l) ≡ n + length (takeWhile inLine (drop n l))
+unfolding all takeWhile
+block-whole zero l h e = omega arith
+block-whole (suc n) [] h e = absurd (omega arith)
+block-whole (suc n) (b ∷ l) h e =
+    let p = and-eq-true-iff (inLine b) (all inLine (take n l)) .0 e in
+    let i = block-whole n l (omega arith) (p .1) in
+    rw (p .0) (omega (arith, i))
+
+pub near-more : (s : Bytes) (i : ℕ) {n : ℕ} {r : Bool} → r ≡ all inLine (take 16 (drop i s)) → r ≡ true → i < length s → 16 ≤ length s - i
+    → i + length (takeWhile inLine (drop i s)) ≡ n → i + 16 + length (takeWhile inLine (drop (i + 16) s)) ≡ n
+near-more s i e f g h k =
+    let m = block-whole 16 (drop i s) (omega (arith, length-drop i s)) (sym e ∙ f) in
+    omega (arith, k, rw (drop-drop 16 i s) at m)
+
+-- ---- comments and empty lines
+
+pub skipped-none : (s : Bytes) (at : ℕ) → at ≤ length s → Skipped s at at
+skipped-none s at h = record { onward = omega arith; inside = omega arith; is = λ host. idle-none host s at (omega arith) }
+
+pub skipped-here : (s : Bytes) (at : ℕ) → at < length s → Skipped s at at
+skipped-here s at h = skipped-none s at (omega arith)
+
+pub skipped-on : {s : Bytes} {from at to : ℕ} → Skipped s from at → Skipped s at to → Skipped s from to
+skipped-on {s} P Q = record { onward = omega (arith, P .onward, Q .onward); inside = Q .inside; is = λ host. idle-on host s (P .is host) (Q .is host) }
+
+skipped-all : {s : Bytes} {from to : ℕ} → ((host : Bytes) → Idle host s from to) → Skipped s from to
+skipped-all f = record { onward = f [] .onward; inside = f [] .inside; is = f }
+
+pub skipped-empty : (s : Bytes) (at : ℕ) → at < length s → getD s at 0 ≡ 10 → Skipped s at (at + 1)
+skipped-empty s at h e = skipped-all (λ host. idle-empty host s at h e)
+
+pub skipped-comment : (s : Bytes) {at to : ℕ} → to ≡ at + 2 + length (takeWhile inLine (drop (at + 2) s)) → at < length s → 2 ≤ length s - at
+    → getD s at 0 ≡ 47 → getD s (at + 1) 0 ≡ 47 → Skipped s at (to + 1)
+skipped-comment s {at} g h l e f = skipped-all (λ host. idle-comment host s at h (omega arith) e f g)
+
+pub skipped-fits : (s : Bytes) {at to : ℕ} → to ≡ at + 2 + length (takeWhile inLine (drop (at + 2) s)) → 2 ≤ length s - at → at < length s → length s ≤ 1048576 → Fits w64 (to + 1)
+skipped-fits s {at} {to} g h l m = record { fits = omega (arith, scan-to inLine s (at + 2) to g (omega arith)) }
+
+pub skipped-less : {s : Bytes} {at to : ℕ} → Skipped s at to → (to ≡ at → ⊥) → at < length s → length s - to < length s - at
+skipped-less P n h = omega (arith, P .onward, n)
+
+-- ---- lines that find nothing
+
+module _ (host tail w : Bytes) {a : Bool} (e : a ≡ endsAtLabel w host) where
+  pub idle-match : a ≡ true → false ≡ not (endsAtLabel w host || endsAtLabel tail w)
+  idle-match f = rw (← e, f)
+
+  module _ {b : Bool} (g : b ≡ endsAtLabel tail w) where
+    pub idle-deep : b ≡ true → false ≡ not (endsAtLabel w host || endsAtLabel tail w)
+    idle-deep f = rw (← g, f, or-true)
+
+    pub idle-yes : a ≡ false → b ≡ false → true ≡ not (endsAtLabel w host || endsAtLabel tail w)
+    idle-yes f h = rw (← e, f, ← g, h)
+
+neither : (a b : Bool) → not (a || b) ≡ true → (a ≡ false) × (b ≡ false)
+neither false false e = (refl, refl)
+neither false true e = let z : _≡_ {A = ℕ} 0 1 = cc in absurd (omega arith)
+neither true b e = let z : _≡_ {A = ℕ} 0 1 = cc in absurd (omega arith)
+
+record ToHost (host table : Bytes) (from start to : ℕ) : Type 0 where
+  pub idle : Idle host table from start
+  pub line : HostLine table start to
+
+record ToOther (host table : Bytes) (from start : ℕ) : Type 0 where
+  pub idle : Idle host table from start
+  pub inside : start ≤ length table
+
+module _ {host table : Bytes} {at : ℕ} where
+  to-host : {q : Stop} {start to : ℕ} → Stopped host table at q → q ≡ Host start to → ToHost host table at start to
+  to-host {start = start} {to = to} (at-host {start = x} {to = y} I L) e =
+      let u : x ≡ start = cc in
+      let v : y ≡ to = cc in
+      rw (← u, ← v) (record { idle = I; line = L })
+  to-host (at-other I h) e = let z : _≡_ {A = ℕ} 0 1 = cc in absurd (omega arith)
+
+  to-other : {q : Stop} {start : ℕ} → Stopped host table at q → q ≡ Other start → ToOther host table at start
+  to-other (at-host I L) e = let z : _≡_ {A = ℕ} 0 1 = cc in absurd (omega arith)
+  to-other {start = start} (at-other {start = x} I h) e = let u : x ≡ start = cc in rw (← u) (record { idle = I; inside = h })
+
+module _ {host table : Bytes} {at : ℕ} {q : Stop} (S : Stopped host table at q) where
+  module _ {start to : ℕ} (e : q ≡ Host start to) where
+    pub host-onward : start ≤ to
+    host-onward = to-host S e .line .onward
+
+    pub host-inside : to ≤ length table
+    host-inside = omega (arith, to-host S e .line .inside)
+
+    pub host-fits : length table ≤ 1048576 → Fits w64 (to + 1)
+    host-fits h = record { fits = omega (arith, to-host S e .line .inside) }
+
+    pub host-less : length table - (to + 1) < length table - at
+    host-less = omega (arith, to-host S e .idle .onward, to-host S e .line .onward, to-host S e .line .inside)
+
+    pub host-stop : {from : ℕ} → Idle host table from at → Idle host table from start
+    host-stop I = idle-on host table I (to-host S e .idle)
+
+    pub host-passed : {from : ℕ} {tail : Bytes} {r : Bool} → Idle host table from at → Tail host tail
+        → r ≡ not (endsAtLabel (take (to - start) (drop start table)) host || endsAtLabel tail (take (to - start) (drop start table))) → r ≡ true → Idle host table from (to + 1)
+    host-passed {tail = tail} I T f g =
+        let L = to-host S e .line in
+        let n = neither (endsAtLabel (take (to - start) (drop start table)) host) (endsAtLabel tail (take (to - start) (drop start table))) (sym f ∙ g) in
+        let F = finds-none host tail (take (to - start) (drop start table)) (L .host) T (n .0) (n .1) in
+        idle-on host table (host-stop I) (idle-line host table start to (omega (arith, L .onward, L .inside)) (L .ends) (rw (L .whole) (F .best)) (rw (L .whole) (F .depth)))
+
+  module _ {start : ℕ} (e : q ≡ Other start) where
+    pub other-inside : start ≤ length table
+    other-inside = to-other S e .inside
+
+    pub other-stop : {from : ℕ} → Idle host table from at → Idle host table from start
+    other-stop I = idle-on host table I (to-other S e .idle)
+
+    module _ {next : ℕ} (P : Skipped table start next) where
+      pub other-passed : {from : ℕ} → Idle host table from at → Idle host table from next
+      other-passed I = idle-on host table (other-stop I) (P .is host)
+
+      pub other-less : (next ≡ start → ⊥) → at < length table → length table - next < length table - at
+      other-less n h = omega (arith, to-other S e .idle .onward, P .onward, n)
+
+pub idle-starts : {kinds host tail table : Bytes} {from : ℕ} → Passes kinds host tail table from → Idle host table from from
+idle-starts {host = host} {table = table} {from = from} P = idle-none host table from (P .inside)
+
+-- ---- the pass over the table
+
+idle-deeps : {host table : Bytes} {e m d at to : ℕ} → Deeps host table e m d at → Idle host table at to → Deeps host table e m d to
+idle-deeps D I = record { pass = record { is = rw (← I .best) (D .pass .is) }; depth = rw (← I .depth) (D .depth) }
+
+pub passes-first : {kinds host table : Bytes} {last : ℕ} → KindsOf host kinds → Stands (lastOf 1 (labels host)) host last → length table ≤ 1048576 → Passes kinds host (take (length host - last) (drop last host)) table 0
+passes-first {host = host} K S h = record { kinds-are = K; tail-is = tail-is host S; inside = omega arith; short = h }
+
+pub record Round (classes kinds host tail table : Bytes) (e m d at : ℕ) : Type 0 where
+  pub short : length table ≤ 1048576
+  pub classes-are : Classifies classes
+  pub tail-of : Tail host tail
+  pub lent : Passes kinds host tail table 0
+  pub deeps : Deeps host table e m d at
+
+pub round-starts : {classes kinds host tail table : Bytes} {at : ℕ} → Idle host table 0 at → Classifies classes → Passes kinds host tail table 0 → Round classes kinds host tail table 0 0 0 at
+round-starts {host = host} {table = table} I C P =
+    record { short = P .short; classes-are = C; tail-of = P .tail-is; lent = P; deeps = idle-deeps (deeps-starts host table (P .short)) I }
+
+-- one line
+pub line-wrong : (host w : Bytes) {q : Best} → q ≡ bestOf (labels host) (readLine w) → q ≡ Bad → Wrong ≡ depthsOf (labels host) (readLine w)
+line-wrong host w e f = wrong-best (labels host) (readLine w) (sym f ∙ e)
+
+pub line-found : (host w : Bytes) {q : Best} {e m d : ℕ} → q ≡ bestOf (labels host) (readLine w) → q ≡ Sizes e m → d ≡ lineDepth (labels host) (readLine w) → Found e m d ≡ depthsOf (labels host) (readLine w)
+line-found host w {e = e} {m = m} {d = d} t f g = go (readLine w) (sym f ∙ t) g
+  where
+    go : (o : Option (List Rule)) → Sizes e m ≡ bestOf (labels host) o → d ≡ lineDepth (labels host) o → Found e m d ≡ depthsOf (labels host) o
+    go none t g = unfold bestOf in (let z : _≡_ {A = ℕ} 0 1 = cc in absurd (omega arith))
+    go (some rs) t g = unfold bestOf sizes depthsOf lineDepth in (
+        let x : maxLabels (filterBy (λ r. r .exception) (filterBy (matches (labels host)) rs)) ≡ e = cc in
+        let y : maxLabels (filterBy (matches (labels host)) rs) ≡ m = cc in
+        rw (x, y, g)
+        )
+
+found-depth : (hl : List Bytes) (o : Option (List Rule)) (e m d : ℕ) → Found e m d ≡ depthsOf hl o → d ≡ lineDepth hl o
+unfolding depthsOf lineDepth
+found-depth hl none e m d f = let z : _≡_ {A = ℕ} 0 1 = cc in absurd (omega arith)
+found-depth hl (some rs) e m d f = let x : d ≡ deepest hl rs = cc in x
+
+wrong-bad : (hl : List Bytes) (o : Option (List Rule)) → Wrong ≡ depthsOf hl o → bestOf hl o ≡ Bad
+unfolding depthsOf bestOf
+wrong-bad hl none f = refl
+wrong-bad hl (some rs) f = let z : _≡_ {A = ℕ} 0 1 = cc in absurd (omega arith)
+
+module _ {classes kinds host tail table : Bytes} {a b c at : ℕ} (R : Round classes kinds host tail table a b c at) where
+  pub round-ends : length table ≤ at → Found a b c ≡ depthsOf (labels host) (readTable table)
+  round-ends l = deeps-ends (R .deeps) (R .short) l
+
+  module _ {to : ℕ} (g : to ≡ at + length (takeWhile inContent (drop at table))) where
+    pub round-start : at ≤ to
+    round-start = scan-from inContent table at to g
+
+    pub round-end : at < length table → to ≤ length table
+    round-end l = scan-to inContent table at to g (omega arith)
+
+    module _ {k : ℕ} (i : k ≡ to + length (takeWhile inLine (drop to table))) (l : at < length table) where
+      pub round-fits : Fits w64 (k + 1)
+      round-fits = pass-fits table i g l (R .short)
+
+      pub round-lends : Passes kinds host tail table (k + 1)
+      round-lends =
+          let a : to ≤ length table = scan-to inContent table at to g (omega arith) in
+          let b : k ≤ length table = scan-to inLine table to k i a in
+          record { kinds-are = R .lent .kinds-are; tail-is = R .lent .tail-is; inside = omega arith; short = R .short }
+
+      pub round-less : {from : ℕ} → Idle host table (k + 1) from → length table - from < length table - at
+      round-less I = omega (arith, i, g, l, I .onward)
+
+    module _ {q : Depths} (t : q ≡ depthsOf (labels host) (readLine (take (to - at) (drop at table)))) where
+      pub round-wrong : q ≡ Wrong → Wrong ≡ depthsOf (labels host) (readTable table)
+      round-wrong e = deeps-bad (R .deeps) g {q = bestOf (labels host) (readLine (take (to - at) (drop at table)))} refl (wrong-bad (labels host) (readLine (take (to - at) (drop at table))) (sym e ∙ t))
+
+      pub round-more : {from k e m d x y z : ℕ} → q ≡ Found e m d → Idle host table (k + 1) from → k ≡ to + length (takeWhile inLine (drop to table))
+          → x ≡ max a e → y ≡ max b m → z ≡ max c d → Round classes kinds host tail table x y z from
+      round-more {e = e} {m = m} {d = d} f I i u v w =
+          let o = readLine (take (to - at) (drop at table)) in
+          let D = deeps-more (R .deeps) g {q = bestOf (labels host) o} refl (sym (to-best table host e m d o (sym f ∙ t))) i u v w (found-depth (labels host) o e m d (sym f ∙ t)) in
+          record { short = R .short; classes-are = R .classes-are; tail-of = R .tail-of; lent = R .lent; deeps = idle-deeps D I }
+
+pub ruleset block-laws = (block-starts, block-ends, block-more, needs)
+
+pub ruleset skip-laws = (
+  scan-end,
+  scan-stop,
+  scan-more,
+  line-lf,
+  line-other,
+  still-lf,
+  still-on,
+  near-more,
+  skipped-none,
+  skipped-here,
+  skipped-on,
+  skipped-empty,
+  skipped-comment,
+  skipped-fits,
+  skipped-less,
+  idle-match,
+  idle-deep,
+  idle-yes,
+  host-onward,
+  host-inside,
+  host-fits,
+  host-less,
+  host-stop,
+  host-passed,
+  other-inside,
+  other-stop,
+  other-passed,
+  other-less,
+  idle-starts,
+  needs,
+)
