@@ -19,7 +19,7 @@ use Rattle.suffix.specs.Place.{Stands, endsAtLabel}
 use Rattle.suffix.specs.Suffix.{Rule, readTable, matches}
 use Rattle.suffix.specs.Pass.{maxLabels, sizes, bestOf, readLine, inLine, inContent}
 use Rattle.suffix.specs.Depth.{deepest, lineDepth, linesDepth, depthsOf, Tail}
-use Rattle.suffix.specs.Idle.{Idle, Skipped, stillIn, KindsOf, HostLine, Stopped, at-host, at-other, Passes}
+use Rattle.suffix.specs.Idle.{Idle, Skipped, stillIn, KindsOf, HostLine, Stopped, at-host, at-other, Passes, Shallow}
 use Rattle.suffix.specs.declared.Best.{Best}
 use Rattle.suffix.specs.declared.Best.the-variants.{Bad, Sizes}
 use Rattle.suffix.specs.declared.Depths.{Depths}
@@ -27,8 +27,10 @@ use Rattle.suffix.specs.declared.Depths.the-variants.{Wrong, Found}
 use Rattle.suffix.specs.declared.skips.Stop.{Stop}
 use Rattle.suffix.specs.declared.skips.Stop.the-variants.{Host, Other}
 use Rattle.suffix.proofs.Passes.{line-lf, line-other, Pass, pass-fits}
+use Rattle.suffix.proofs.Lines.{rest-whole}
+use Rattle.suffix.proofs.Speed.{last-names}
 use Rattle.suffix.proofs.Climbs.{Deeps, deeps-starts, deeps-more, deeps-bad, deeps-ends, tail-is, wrong-best, to-best}
-use Rattle.suffix.proofs.IdleLines.{idle-none, idle-on, idle-line, idle-empty, idle-comment, Finds, finds-none}
+use Rattle.suffix.proofs.IdleLines.{idle-none, idle-on, idle-empty, idle-comment, tail-more, tail-whole, finds-to, shallow-line, shallow-of, shallow-on}
 
 -- ---- the end of a line
 
@@ -164,52 +166,55 @@ module _ {host table : Bytes} {at : ℕ} {q : Stop} (S : Stopped host table at q
     pub host-less : length table - (to + 1) < length table - at
     host-less = omega (arith, to-host S e .idle .onward, to-host S e .line .onward, to-host S e .line .inside)
 
-    pub host-stop : {from : ℕ} → Idle host table from at → Idle host table from start
-    host-stop I = idle-on host table I (to-host S e .idle)
+    pub host-stop : {d from : ℕ} → Shallow host table d from at → Shallow host table d from start
+    host-stop {d} I = shallow-on I (shallow-of d (to-host S e .idle))
 
-    pub host-passed : {from : ℕ} {tail : Bytes} {r : Bool} → Idle host table from at → Tail host tail
-        → r ≡ not (endsAtLabel (take (to - start) (drop start table)) host || endsAtLabel tail (take (to - start) (drop start table))) → r ≡ true → Idle host table from (to + 1)
-    host-passed {tail = tail} I T f g =
+    pub host-passed : {d from last : ℕ} {r : Bool} → Shallow host table d from at → Stands (lastOf (suc d) (labels host)) host last
+        → r ≡ not (endsAtLabel (take (to - start) (drop start table)) host || endsAtLabel (take (length host - last) (drop last host)) (take (to - start) (drop start table)))
+        → r ≡ true → Shallow host table d from (to + 1)
+    host-passed {d} {from} {last} I T f g =
         let L = to-host S e .line in
-        let n = neither (endsAtLabel (take (to - start) (drop start table)) host) (endsAtLabel tail (take (to - start) (drop start table))) (sym f ∙ g) in
-        let F = finds-none host tail (take (to - start) (drop start table)) (L .host) T (n .0) (n .1) in
-        idle-on host table (host-stop I) (idle-line host table start to (omega (arith, L .onward, L .inside)) (L .ends) (rw (L .whole) (F .best)) (rw (L .whole) (F .depth)))
+        let w = take (to - start) (drop start table) in
+        let t = take (length host - last) (drop last host) in
+        let n = neither (endsAtLabel w host) (endsAtLabel t w) (sym f ∙ g) in
+        let F = finds-to host t w d (L .host) (ap labels (rest-whole host last ∙ T .is) ∙ last-names host (suc d) (omega arith)) (n .0) (n .1) in
+        shallow-on (host-stop I) (shallow-line host table d start to (omega (arith, L .onward, L .inside)) (L .ends) (rw (L .whole) F))
 
   module _ {start : ℕ} (e : q ≡ Other start) where
     pub other-inside : start ≤ length table
     other-inside = to-other S e .inside
 
-    pub other-stop : {from : ℕ} → Idle host table from at → Idle host table from start
-    other-stop I = idle-on host table I (to-other S e .idle)
+    pub other-stop : {d from : ℕ} → Shallow host table d from at → Shallow host table d from start
+    other-stop {d} I = shallow-on I (shallow-of d (to-other S e .idle))
 
     module _ {next : ℕ} (P : Skipped table start next) where
-      pub other-passed : {from : ℕ} → Idle host table from at → Idle host table from next
-      other-passed I = idle-on host table (other-stop I) (P .is host)
+      pub other-passed : {d from : ℕ} → Shallow host table d from at → Shallow host table d from next
+      other-passed {d} I = shallow-on (other-stop I) (shallow-of d (P .is host))
 
       pub other-less : (next ≡ start → ⊥) → at < length table → length table - next < length table - at
       other-less n h = omega (arith, to-other S e .idle .onward, P .onward, n)
 
-pub idle-starts : {kinds host tail table : Bytes} {from : ℕ} → Passes kinds host tail table from → Idle host table from from
-idle-starts {host = host} {table = table} {from = from} P = idle-none host table from (P .inside)
+pub shallow-starts : {kinds host table : Bytes} (d : ℕ) {from : ℕ} → Passes kinds host table from → Shallow host table d from from
+shallow-starts {host = host} {table = table} d {from = from} P = shallow-of d (idle-none host table from (P .inside))
 
 -- ---- the pass over the table
 
-idle-deeps : {host table : Bytes} {e m d at to : ℕ} → Deeps host table e m d at → Idle host table at to → Deeps host table e m d to
-idle-deeps D I = record { pass = record { is = rw (← I .best) (D .pass .is) }; depth = rw (← I .depth) (D .depth) }
+shallow-deeps : {host table : Bytes} {e m d at to : ℕ} → Deeps host table e m d at → Shallow host table d at to → Deeps host table e m d to
+shallow-deeps D I = record { pass = record { is = rw (← I .best) (D .pass .is) }; depth = sym (I .depth) ∙ D .depth }
 
-pub passes-first : {kinds host table : Bytes} {last : ℕ} → KindsOf host kinds → Stands (lastOf 1 (labels host)) host last → length table ≤ 1048576 → Passes kinds host (take (length host - last) (drop last host)) table 0
-passes-first {host = host} K S h = record { kinds-are = K; tail-is = tail-is host S; inside = omega arith; short = h }
+pub passes-first : {kinds host table : Bytes} → KindsOf host kinds → length table ≤ 1048576 → Passes kinds host table 0
+passes-first K h = record { kinds-are = K; inside = omega arith; short = h }
 
 pub record Round (classes kinds host tail table : Bytes) (e m d at : ℕ) : Type 0 where
   pub short : length table ≤ 1048576
   pub classes-are : Classifies classes
   pub tail-of : Tail host tail
-  pub lent : Passes kinds host tail table 0
+  pub lent : Passes kinds host table 0
   pub deeps : Deeps host table e m d at
 
-pub round-starts : {classes kinds host tail table : Bytes} {at : ℕ} → Idle host table 0 at → Classifies classes → Passes kinds host tail table 0 → Round classes kinds host tail table 0 0 0 at
-round-starts {host = host} {table = table} I C P =
-    record { short = P .short; classes-are = C; tail-of = P .tail-is; lent = P; deeps = idle-deeps (deeps-starts host table (P .short)) I }
+pub round-starts : {classes kinds host tail table : Bytes} {at : ℕ} → Shallow host table 0 0 at → Classifies classes → Tail host tail → Passes kinds host table 0 → Round classes kinds host tail table 0 0 0 at
+round-starts {host = host} {table = table} I C T P =
+    record { short = P .short; classes-are = C; tail-of = T; lent = P; deeps = shallow-deeps (deeps-starts host table (P .short)) I }
 
 -- one line
 pub line-wrong : (host w : Bytes) {q : Best} → q ≡ bestOf (labels host) (readLine w) → q ≡ Bad → Wrong ≡ depthsOf (labels host) (readLine w)
@@ -251,25 +256,25 @@ module _ {classes kinds host tail table : Bytes} {a b c at : ℕ} (R : Round cla
       pub round-fits : Fits w64 (k + 1)
       round-fits = pass-fits table i g l (R .short)
 
-      pub round-lends : Passes kinds host tail table (k + 1)
+      pub round-lends : Passes kinds host table (k + 1)
       round-lends =
           let a : to ≤ length table = scan-to inContent table at to g (omega arith) in
           let b : k ≤ length table = scan-to inLine table to k i a in
-          record { kinds-are = R .lent .kinds-are; tail-is = R .lent .tail-is; inside = omega arith; short = R .short }
+          record { kinds-are = R .lent .kinds-are; inside = omega arith; short = R .short }
 
-      pub round-less : {from : ℕ} → Idle host table (k + 1) from → length table - from < length table - at
+      pub round-less : {d from : ℕ} → Shallow host table d (k + 1) from → length table - from < length table - at
       round-less I = omega (arith, i, g, l, I .onward)
 
     module _ {q : Depths} (t : q ≡ depthsOf (labels host) (readLine (take (to - at) (drop at table)))) where
       pub round-wrong : q ≡ Wrong → Wrong ≡ depthsOf (labels host) (readTable table)
       round-wrong e = deeps-bad (R .deeps) g {q = bestOf (labels host) (readLine (take (to - at) (drop at table)))} refl (wrong-bad (labels host) (readLine (take (to - at) (drop at table))) (sym e ∙ t))
 
-      pub round-more : {from k e m d x y z : ℕ} → q ≡ Found e m d → Idle host table (k + 1) from → k ≡ to + length (takeWhile inLine (drop to table))
+      pub round-more : {from k e m d x y z : ℕ} → q ≡ Found e m d → Shallow host table z (k + 1) from → k ≡ to + length (takeWhile inLine (drop to table))
           → x ≡ max a e → y ≡ max b m → z ≡ max c d → Round classes kinds host tail table x y z from
       round-more {e = e} {m = m} {d = d} f I i u v w =
           let o = readLine (take (to - at) (drop at table)) in
           let D = deeps-more (R .deeps) g {q = bestOf (labels host) o} refl (sym (to-best table host e m d o (sym f ∙ t))) i u v w (found-depth (labels host) o e m d (sym f ∙ t)) in
-          record { short = R .short; classes-are = R .classes-are; tail-of = R .tail-of; lent = R .lent; deeps = idle-deeps D I }
+          record { short = R .short; classes-are = R .classes-are; tail-of = R .tail-of; lent = R .lent; deeps = shallow-deeps D I }
 
 pub ruleset block-laws = (block-starts, block-ends, block-more, needs)
 
@@ -302,6 +307,8 @@ pub ruleset skip-laws = (
   other-stop,
   other-passed,
   other-less,
-  idle-starts,
+  shallow-starts,
+  tail-more,
+  tail-whole,
   needs,
 )

@@ -1,14 +1,14 @@
 -- Lines of the table that find nothing for a host, as one loop over their bytes passes over them.
 use mathlib.Core.Path.{_≡_}
 use mathlib.Core.Bool.{Bool, true, false, _&&_, _||_}
-use Prim.Native.Nat.{ℕ, _+_, _-_, _*_, _≤_, _<_}
+use Prim.Native.Nat.{ℕ, _+_, _-_, _*_, _≤_, _<_, max}
 use lib.ListN.{length, take, drop, getD}
 use lib.Dec.{eqb, leb}
 use Rattle.ascii.specs.Ascii.{Bytes, if_then_else_, takeWhile, splitAt, isDigit, isLetter, lowerByte}
 use Rattle.suffix.specs.Host.{labels, isHost}
 use Rattle.suffix.specs.Suffix.{readLines}
 use Rattle.suffix.specs.Pass.{bestOf, inLine, inContent}
-use Rattle.suffix.specs.Depth.{linesDepth, Tail}
+use Rattle.suffix.specs.Depth.{linesDepth}
 use Rattle.suffix.specs.declared.skips.Step.{Step}
 use Rattle.suffix.specs.declared.skips.Step.the-variants.{On, Off}
 use Rattle.suffix.specs.declared.skips.Stop.{Stop}
@@ -74,9 +74,15 @@ pub data Stopped (host table : Bytes) (from : ℕ) : Stop → Type 0 where
   at-host : {start to : ℕ} → Idle host table from start → HostLine table start to → Stopped host table from (Host start to)
   at-other : {start : ℕ} → Idle host table from start → start ≤ length table → Stopped host table from (Other start)
 
--- what the pass over such lines is lent: the kinds for the host, its last label, and a place of a table that is not too long
-pub record Passes (kinds host tail table : Bytes) (from : ℕ) : Type 0 where
+-- what the pass over such lines is lent: the kinds for the host, and a place of a table that is not too long
+pub record Passes (kinds host table : Bytes) (from : ℕ) : Type 0 where
   pub kinds-are : KindsOf host kinds
-  pub tail-is : Tail host tail
   pub inside : from ≤ length table + 1
   pub short : length table ≤ 1048576
+
+-- the lines from one place to another find nothing but rules that go deeper than at most d labels
+pub record Shallow (host table : Bytes) (d from to : ℕ) : Type 0 where
+  pub onward : from ≤ to
+  pub inside : to ≤ length table + 1
+  pub best : bestOf (labels host) (readLines (splitAt 10 (drop from table))) ≡ bestOf (labels host) (readLines (splitAt 10 (drop to table)))
+  pub depth : max d (linesDepth (labels host) (splitAt 10 (drop from table))) ≡ max d (linesDepth (labels host) (splitAt 10 (drop to table)))

@@ -2,14 +2,15 @@
 use crate::hosts;
 ghost use mathlib.Core.Path.{_≡_};
 ghost use mathlib.Core.Bool.{_||_, not};
-ghost use Prim.Native.Nat.{_+_, _≤_, _<_};
+ghost use Prim.Native.Nat.{suc, _+_, _≤_, _<_};
 ghost use lib.ListN.{length, getD, take, drop};
 ghost use lib.Dec.{eqb};
-ghost use Rattle.ascii.specs.Ascii.{if_then_else_, all, takeWhile};
+ghost use Rattle.ascii.specs.Ascii.{if_then_else_, all, takeWhile, lastOf};
 ghost use Rattle.ascii.specs.Class.{Classifies};
-ghost use Rattle.suffix.specs.Place.{endsAtLabel};
+ghost use Rattle.suffix.specs.Host.{labels};
+ghost use Rattle.suffix.specs.Place.{Stands, endsAtLabel};
 ghost use Rattle.suffix.specs.Pass.{inLine};
-ghost use Rattle.suffix.specs.Idle.{Idle, Skipped, stillIn, lastByte, kindOf, KindsOf, stepOf, stopOf, Stopped, Passes};
+ghost use Rattle.suffix.specs.Idle.{Skipped, stillIn, lastByte, kindOf, KindsOf, stepOf, stopOf, Stopped, Passes, Shallow};
 
 // One byte on: where its line begins, and the byte's kind.
 pub enum Step {
@@ -254,7 +255,7 @@ fn skip_comments(s: &[u8], from: usize) -> usize
     at
 }
 
-// The host w is no end of the host, and the host's last label no end of w.
+// The host w is no end of the host, and the host's last labels no end of w.
 fn is_idle(host: &[u8], tail: &[u8], w: &[u8]) -> bool
     ensures { λ r. ⌜ r ≡ not (endsAtLabel (now (w .entry)) (now (host .entry)) || endsAtLabel (now (tail .entry)) (now (w .entry))) ⌝ }
 {
@@ -267,17 +268,29 @@ fn is_idle(host: &[u8], tail: &[u8], w: &[u8]) -> bool
     true
 }
 
-// The first line that may find something for the host.
+// Where the labels begin that are one more than the depth, the host where it has no more.
+fn tail_start(host: &[u8], depth: usize) -> usize
+    ensures { λ r. ⌜ Stands (lastOf (suc depth) (labels (now (host .entry)))) (now (host .entry)) r ⌝ }
+{
+    if depth < hosts::label_count(host) {
+        return hosts::last_labels(host, depth + 1);
+    }
+    0
+}
+
+// The first line that may match the host, or go deeper than more of its labels than the depth.
 pub(crate) fn idle_lines(
     kinds: &[u8; 256],
     host: &[u8],
-    tail: &[u8],
+    depth: usize,
     s: &[u8],
     from: usize,
 ) -> usize
-    requires { ⌜ Passes (now kinds) (now host) (now tail) (now s) from ⌝ }
-    ensures { λ r. ⌜ Idle (now (host .entry)) (now (s .entry)) from r ⌝ }
+    requires { ⌜ Passes (now kinds) (now host) (now s) from ⌝ }
+    ensures { λ r. ⌜ Shallow (now (host .entry)) (now (s .entry)) depth from r ⌝ }
 {
+    let last = tail_start(host, depth);
+    let tail = &host[last..];
     let mut at = from;
     while at < s.len() {
         let found = plain_lines(kinds, host, s, at);

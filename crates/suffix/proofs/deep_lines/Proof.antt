@@ -38,17 +38,17 @@ deep-lines-spec =
     (λ c. search pass-laws)
     {- returns -}
     (λ c. search pass-laws)
-    {- line-end-requires -}
-    (λ c κs. search pass-laws)
-    {- add-next -}
-    (λ c. search pass-laws)
-    {- idle-lines-requires-2 -}
-    (λ c κs. search pass-laws)
     {- larger-requires -}
     (λ c κs. search pass-laws)
     {- larger-requires-2 -}
     (λ c κs. search pass-laws)
     {- larger-requires-3 -}
+    (λ c κs. search pass-laws)
+    {- line-end-requires -}
+    (λ c κs. search pass-laws)
+    {- add-next -}
+    (λ c. search pass-laws)
+    {- idle-lines-requires-2 -}
     (λ c κs. search pass-laws)
     {- loop-less -}
     (λ c. search pass-laws)

@@ -1,16 +1,16 @@
 -- `suffix::idle_lines` meets its contract.
 use Prim.Native.Nat.{_-_}
 use lib.ListN.{length}
-use Rattle.suffix.specs.Idle.{Idle}
+use Rattle.suffix.specs.Idle.{Shallow}
 use Rattle.suffix.proofs.SkipLaws.{skip-laws}
 use Rattle.suffix.proofs.skips.idle_lines.Statement.{statement}
 use Rattle.suffix.proofs.skips.idle_lines.Tie as tie
 
 abbrev Inv-loop : tie.InvT-loop
-Inv-loop kinds host tail s from at₀ at = Idle host s from at
+Inv-loop kinds host depth s from last tail at₀ at = Shallow host s depth from at
 
 abbrev μ-loop : tie.MeasureT-loop
-μ-loop kinds host tail s from at₀ at = length s - at
+μ-loop kinds host depth s from last tail at₀ at = length s - at
 
 pub idle-lines-spec : {M : Type 1} → statement M
 idle-lines-spec =
@@ -18,6 +18,14 @@ idle-lines-spec =
     (tie.spec
     Inv-loop
     μ-loop
+    {- tail-start-requires -}
+    (λ c κs. search skip-laws)
+    {- sub-tail -}
+    (λ c. search skip-laws)
+    {- part-tail-start -}
+    (λ c. search skip-laws)
+    {- part-tail-end -}
+    (λ c. search skip-laws)
     {- loop-holds -}
     (λ c. search skip-laws)
     {- plain-lines-requires -}
