@@ -1,6 +1,6 @@
 -- The ends of lines, comments, and the pass over lines that find nothing. Assumes nothing.
 use mathlib.Core.Path.{_≡_, refl, sym, ap, _∙_}
-use mathlib.Core.Bool.{Bool, true, false, _&&_, _||_, not, and-false, and-true, or-true, and-eq-true-iff}
+use mathlib.Core.Bool.{Bool, true, false, _||_, not, or-true}
 use mathlib.Core.List.{List, [], _∷_}
 use mathlib.Core.Option.{Option, none, some}
 use Prim.Native.Nat.{ℕ, zero, suc, _+_, _-_, _≤_, _<_, max}
@@ -10,8 +10,10 @@ use mir.Val.{Fits}
 use mir.Syntax.{w64}
 use lib.ListN.{length, getD, take, drop, length-drop}
 use lib.Seq.{drop-cons, drop-drop, drop-nil}
+use lib.Dec.{eqb, ltb}
 use borrow.Author.Needs.{needs}
-use Rattle.ascii.specs.Ascii.{Bytes, if_then_else_, all, filterBy, takeWhile, lastOf, splitAt}
+use borrow.Author.Tests.{eq-eqb, ne-eqb, eqb-true, eqb-false, lt-ltb, le-ltb}
+use Rattle.ascii.specs.Ascii.{Bytes, if_then_else_, filterBy, takeWhile, lastOf, splitAt}
 use Rattle.ascii.specs.Class.{Classifies}
 use Rattle.ascii.proofs.Scan.{scan-end, scan-stop, scan-more, scan-from, scan-to}
 use Rattle.suffix.specs.Host.{labels, isHost}
@@ -19,7 +21,7 @@ use Rattle.suffix.specs.Place.{Stands, endsAtLabel}
 use Rattle.suffix.specs.Suffix.{Rule, readTable, matches}
 use Rattle.suffix.specs.Pass.{maxLabels, sizes, bestOf, readLine, inLine, inContent}
 use Rattle.suffix.specs.Depth.{deepest, lineDepth, linesDepth, depthsOf, Tail}
-use Rattle.suffix.specs.Idle.{Idle, Skipped, stillIn, KindsOf, HostLine, Stopped, at-host, at-other, Passes, Shallow}
+use Rattle.suffix.specs.Idle.{Idle, Skipped, blockEnd, lfAt, lesser, KindsOf, HostLine, Stopped, at-host, at-other, Passes, Shallow}
 use Rattle.suffix.specs.declared.Best.{Best}
 use Rattle.suffix.specs.declared.Best.the-variants.{Bad, Sizes}
 use Rattle.suffix.specs.declared.Depths.{Depths}
@@ -34,58 +36,133 @@ use Rattle.suffix.proofs.IdleLines.{idle-none, idle-on, idle-empty, idl
 
 -- ---- the end of a line
 
-pub still-lf : (r : Bool) (b : ℕ) → b ≡ 10 → false ≡ stillIn r b
-unfolding stillIn
-still-lf r b e = rw (← line-lf b e, and-false)
+pub lf-here : (k b : ℕ) → b ≡ 10 → k ≡ lfAt k b
+unfolding lfAt
+lf-here k b e = rw (eq-eqb b 10 e)
 
-pub still-on : (r : Bool) (b : ℕ) → (b ≡ 10 → ⊥) → r ≡ stillIn r b
-unfolding stillIn
-still-on r b n = rw (← line-other b n, and-true)
+pub lf-none : (k b : ℕ) → (b ≡ 10 → ⊥) → 64 ≡ lfAt k b
+unfolding lfAt
+lf-none k b n = rw (ne-eqb b 10 n)
 
--- the bytes of a block before k go on as r tells
-pub record Block (s : Bytes) (from : ℕ) (r : Bool) (k : ℕ) : Type 0 where
-  pub most : k ≤ 16
-  pub is : (r && all inLine (take (16 - k) (drop (from + k) s))) ≡ all inLine (take 16 (drop from s))
+pub lesser-first : (a b : ℕ) → a < b → a ≡ lesser a b
+unfolding lesser
+lesser-first a b h = rw (lt-ltb a b h)
 
-pub block-starts : (s : Bytes) (from : ℕ) → Block s from true 0
-block-starts s from = record { most = omega arith; is = let z : from + 0 ≡ from = omega arith in rw z }
+pub lesser-second : (a b : ℕ) → b ≤ a → b ≡ lesser a b
+unfolding lesser
+lesser-second a b h = rw (le-ltb a b h)
 
-and-and : (a b c : Bool) → (a && b && c) ≡ (a && (b && c))
-and-and true b c = refl
-and-and false b c = refl
+-- the end is found before k, or the bytes before k go on
+pub data Seen (w : ℕ) (l : Bytes) (k : ℕ) : ℕ → Type 0 where
+  seen : {r : ℕ} → r < k → r ≡ w → Seen w l k r
+  unseen : k + length (takeWhile inLine (take (64 - k) l)) ≡ w → Seen w l k 64
 
-module _ {s : Bytes} {from k : ℕ} {r : Bool} (B : Block s from r k) where
-  pub block-ends : 16 ≤ k → r ≡ all inLine (take 16 (drop from s))
-  block-ends h = sym (rw z (unfold all in (and-true r))) ∙ B .is
-    where
-      z : 16 - k ≡ 0
-      z = omega arith
+pub record Block (s : Bytes) (from r k : ℕ) : Type 0 where
+  pub most : k ≤ 64
+  pub is : Seen (blockEnd s from) (drop (from + k) s) k r
 
-  pub block-more : {y : Bool} → y ≡ stillIn r (getD s (from + k) 0) → k < 16 → from + 16 ≤ length s → Block s from y (k + 1)
-  block-more {y} f h l = record { most = omega arith; is = stepped ∙ B .is }
-    where
-      stepped : (y && all inLine (take (16 - (k + 1)) (drop (from + (k + 1)) s))) ≡ (r && all inLine (take (16 - k) (drop (from + k) s)))
-      stepped = unfold all stillIn in (
-          let m : from + k < length s = omega arith in
-          let n : 16 - k ≡ suc (16 - (k + 1)) = omega arith in
-          let o : from + (k + 1) ≡ suc (from + k) = omega arith in
-          rw (f, drop-cons s (from + k) 0 m, n, o) (and-and r (inLine (getD s (from + k) 0)) (all inLine (take (16 - (k + 1)) (drop (suc (from + k)) s))))
-          )
+pub block-starts : (s : Bytes) (from : ℕ) → Block s from 64 0
+unfolding blockEnd
+block-starts s from = record { most = omega arith; is = unseen (let z : from + 0 ≡ from = omega arith in rw z (omega arith)) }
 
-block-whole : (n : ℕ) (l : Bytes) → n ≤ length l → all inLine (take n l) ≡ true → length (takeWhile inLine l) ≡ n + length (takeWhile inLine (drop n l))
-unfolding all takeWhile
-block-whole zero l h e = omega arith
-block-whole (suc n) [] h e = absurd (omega arith)
-block-whole (suc n) (b ∷ l) h e =
-    let p = and-eq-true-iff (inLine b) (all inLine (take n l)) .0 e in
-    let i = block-whole n l (omega arith) (p .1) in
-    rw (p .0) (omega (arith, i))
+seen-ends : {w k r : ℕ} {l : Bytes} → Seen w l k r → k ≡ 64 → r ≡ w
+unfolding takeWhile
+seen-ends (seen h e) f = e
+seen-ends {k = k} (unseen e) f = let z : 64 - k ≡ 0 = omega arith in omega (arith, f, rw z at e)
 
-pub near-more : (s : Bytes) (i : ℕ) {n : ℕ} {r : Bool} → r ≡ all inLine (take 16 (drop i s)) → r ≡ true → i < length s → 16 ≤ length s - i
-    → i + length (takeWhile inLine (drop i s)) ≡ n → i + 16 + length (takeWhile inLine (drop (i + 16) s)) ≡ n
-near-more s i e f g h k =
-    let m = block-whole 16 (drop i s) (omega (arith, length-drop i s)) (sym e ∙ f) in
-    omega (arith, k, rw (drop-drop 16 i s) at m)
+seen-more : {w k r v x : ℕ} (b : ℕ) (l m : Bytes) → Seen w l k r → k < 64 → l ≡ b ∷ m → v ≡ lfAt k b → x ≡ lesser v r → Seen w m (k + 1) x
+unfolding lfAt lesser
+seen-more {w} {k} {r} {v} {x} b l m (seen h e) g f i j = rw kept (seen {r = r} (omega arith) e)
+  where
+    above : k ≤ v
+    above = rw i (go (eqb b 10))
+      where
+        go : (u : Bool) → k ≤ (if u then k else 64)
+        go true = omega arith
+        go false = omega arith
+
+    kept : x ≡ r
+    kept = j ∙ rw (le-ltb v r (omega (arith, above)))
+seen-more {w} {k} {r} {v} {x} b l m (unseen e) g f i j = go (eqb b 10) refl
+  where
+    n : 64 - k ≡ suc (64 - (k + 1))
+    n = omega arith
+
+    go : (u : Bool) → eqb b 10 ≡ u → Seen w m (k + 1) x
+    go true u =
+        let y : v ≡ k = i ∙ rw u in
+        let z : x ≡ k = j ∙ rw (y, lt-ltb k 64 g) in
+        rw z (seen {r = k} (omega arith) (stops (eqb-true b 10 u)))
+      where
+        stops : b ≡ 10 → k ≡ w
+        stops c = unfold takeWhile in (omega (arith, rw (f, n, ← line-lf b c) at e))
+    go false u =
+        let y : v ≡ 64 = i ∙ rw u in
+        let z : x ≡ 64 = j ∙ rw y in
+        rw z (unseen (goes (eqb-false b 10 u)))
+      where
+        goes : (b ≡ 10 → ⊥) → k + 1 + length (takeWhile inLine (take (64 - (k + 1)) m)) ≡ w
+        goes c = unfold takeWhile in (omega (arith, rw (f, n, ← line-other b c) at e))
+
+module _ {s : Bytes} {from r k : ℕ} (B : Block s from r k) where
+  pub block-ends : 64 ≤ k → r ≡ blockEnd s from
+  block-ends h = seen-ends (B .is) (omega (arith, B .most))
+
+  pub block-more : {x v : ℕ} → x ≡ lesser v r → v ≡ lfAt k (getD s (from + k) 0) → k < 64 → from + 64 ≤ length s → Block s from x (k + 1)
+  block-more e f h l =
+      let o : from + (k + 1) ≡ suc (from + k) = omega arith in
+      record { most = omega arith; is = rw o (seen-more (getD s (from + k) 0) (drop (from + k) s) (drop (suc (from + k)) s) (B .is) h (drop-cons s (from + k) 0 (omega arith)) f e) }
+
+-- a scan of the first n bytes, and of all
+while-short : (n : ℕ) (l : Bytes) → length (takeWhile inLine (take n l)) < n → n ≤ length l → length (takeWhile inLine l) ≡ length (takeWhile inLine (take n l))
+unfolding takeWhile
+while-short zero l h k = absurd (omega arith)
+while-short (suc n) [] h k = absurd (omega arith)
+while-short (suc n) (b ∷ l) h k = go (inLine b) h (while-short n l)
+  where
+    go : (u : Bool) → length (if u then b ∷ takeWhile inLine (take n l) else []) < suc n → (length (takeWhile inLine (take n l)) < n → n ≤ length l → length (takeWhile inLine l) ≡ length (takeWhile inLine (take n l)))
+        → length (if u then b ∷ takeWhile inLine l else []) ≡ length (if u then b ∷ takeWhile inLine (take n l) else [])
+    go true h ih = let i = ih (omega arith) (omega arith) in omega (arith, i)
+    go false h ih = refl
+
+while-long : (n : ℕ) (l : Bytes) → n ≤ length (takeWhile inLine (take n l)) → n ≤ length l → length (takeWhile inLine l) ≡ n + length (takeWhile inLine (drop n l))
+unfolding takeWhile
+while-long zero l h k = omega arith
+while-long (suc n) [] h k = absurd (omega arith)
+while-long (suc n) (b ∷ l) h k = go (inLine b) h (while-long n l)
+  where
+    go : (u : Bool) → suc n ≤ length (if u then b ∷ takeWhile inLine (take n l) else []) → (n ≤ length (takeWhile inLine (take n l)) → n ≤ length l → length (takeWhile inLine l) ≡ n + length (takeWhile inLine (drop n l)))
+        → length (if u then b ∷ takeWhile inLine l else []) ≡ suc n + length (takeWhile inLine (drop n l))
+    go true h ih = let i = ih (omega arith) (omega arith) in omega (arith, i)
+    go false h ih = absurd (omega arith)
+
+-- the line at from ends where the line at i ends
+pub record SameEnd (s : Bytes) (from i : ℕ) : Type 0 where
+  pub is : i + length (takeWhile inLine (drop i s)) ≡ from + length (takeWhile inLine (drop from s))
+
+pub end-starts : (s : Bytes) (from : ℕ) → SameEnd s from from
+end-starts s from = record { is = refl }
+
+module _ {s : Bytes} {from i : ℕ} (E : SameEnd s from i) where
+  pub end-out : length s ≤ i → i ≡ from + length (takeWhile inLine (drop from s))
+  end-out h = scan-end inLine s i h (E .is)
+
+  pub end-short : {r : ℕ} → r ≡ i + length (takeWhile inLine (drop i s)) → r ≡ from + length (takeWhile inLine (drop from s))
+  end-short e = e ∙ E .is
+
+  module _ {r m : ℕ} (e : r ≡ blockEnd s i) (f : m ≡ r) (h : 64 ≤ length s - i) where
+    inside : 64 ≤ length (drop i s)
+    inside = omega (arith, length-drop i s)
+
+    pub end-here : m < 64 → i + m ≡ from + length (takeWhile inLine (drop from s))
+    unfolding blockEnd
+    end-here k = omega (arith, e, f, E .is, while-short 64 (drop i s) (omega (arith, e, f)) inside)
+
+    pub end-more : 64 ≤ m → SameEnd s from (i + 64)
+    unfolding blockEnd
+    end-more k =
+        let w = while-long 64 (drop i s) (omega (arith, e, f)) inside in
+        record { is = omega (arith, E .is, rw (drop-drop 64 i s) at w) }
 
 -- ---- comments and empty lines
 
@@ -278,15 +355,18 @@ module _ {classes kinds host tail table : Bytes} {a b c at : ℕ} (R : Round cla
 
 pub ruleset block-laws = (block-starts, block-ends, block-more, needs)
 
+pub ruleset end-laws = (end-starts, end-out, end-short, end-here, end-more, needs)
+
 pub ruleset skip-laws = (
   scan-end,
   scan-stop,
   scan-more,
   line-lf,
   line-other,
-  still-lf,
-  still-on,
-  near-more,
+  lf-here,
+  lf-none,
+  lesser-first,
+  lesser-second,
   skipped-none,
   skipped-here,
   skipped-on,

@@ -3,7 +3,7 @@ use mathlib.Core.Path.{_≡_}
 use mathlib.Core.Bool.{Bool, true, false, _&&_, _||_}
 use Prim.Native.Nat.{ℕ, _+_, _-_, _*_, _≤_, _<_, max}
 use lib.ListN.{length, take, drop, getD}
-use lib.Dec.{eqb, leb}
+use lib.Dec.{eqb, leb, ltb}
 use Rattle.ascii.specs.Ascii.{Bytes, if_then_else_, takeWhile, splitAt, isDigit, isLetter, lowerByte}
 use Rattle.suffix.specs.Host.{labels, isHost}
 use Rattle.suffix.specs.Suffix.{readLines}
@@ -27,9 +27,16 @@ pub record Skipped (table : Bytes) (from to : ℕ) : Type 0 where
   pub inside : to ≤ length table + 1
   pub is : (host : Bytes) → Idle host table from to
 
--- a line goes on: r told so, and b is of it too
-unfoldable pub stillIn : Bool → ℕ → Bool
-stillIn r b = r && inLine b
+-- how many of the 64 bytes at a place are before the line's end
+unfoldable pub blockEnd : Bytes → ℕ → ℕ
+blockEnd s from = length (takeWhile inLine (take 64 (drop from s)))
+
+-- the place k of an LF, 64 of another byte; and the lesser of two places
+unfoldable pub lfAt : ℕ → ℕ → ℕ
+lfAt k b = if eqb b 10 then k else 64
+
+unfoldable pub lesser : ℕ → ℕ → ℕ
+lesser a b = if ltb a b then a else b
 
 unfoldable pub lastByte : Bytes → ℕ
 lastByte s = getD s (length s - 1) 0

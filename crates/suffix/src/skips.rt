@@ -3,14 +3,14 @@ use crate::hosts;
 ghost use mathlib.Core.Path.{_≡_};
 ghost use mathlib.Core.Bool.{_||_, not};
 ghost use Prim.Native.Nat.{suc, _+_, _≤_, _<_};
-ghost use lib.ListN.{length, getD, take, drop};
+ghost use lib.ListN.{length, getD, drop};
 ghost use lib.Dec.{eqb};
-ghost use Rattle.ascii.specs.Ascii.{if_then_else_, all, takeWhile, lastOf};
+ghost use Rattle.ascii.specs.Ascii.{if_then_else_, takeWhile, lastOf};
 ghost use Rattle.ascii.specs.Class.{Classifies};
 ghost use Rattle.suffix.specs.Host.{labels};
 ghost use Rattle.suffix.specs.Place.{Stands, endsAtLabel};
 ghost use Rattle.suffix.specs.Pass.{inLine};
-ghost use Rattle.suffix.specs.Idle.{Skipped, stillIn, lastByte, kindOf, KindsOf, stepOf, stopOf, Stopped, Passes, Shallow};
+ghost use Rattle.suffix.specs.Idle.{Skipped, blockEnd, lfAt, lesser, lastByte, kindOf, KindsOf, stepOf, stopOf, Stopped, Passes, Shallow};
 
 // One byte on: where its line begins, and the byte's kind.
 pub enum Step {
@@ -166,37 +166,40 @@ fn in_line(b: u8) -> bool
     true
 }
 
-fn still(r: bool, b: u8) -> bool
-    ensures { λ x. ⌜ x ≡ stillIn r b ⌝ }
+fn lf_at(k: u8, b: u8) -> u8
+    ensures { λ r. ⌜ r ≡ lfAt k b ⌝ }
 {
-    if b == 10 { false } else { r }
+    if b == 10 { k } else { 64 }
 }
 
-// The line does not end in the sixteen bytes at a place.
-fn goes_on(s: &[u8], from: usize) -> bool
-    requires { ⌜ from + 16 ≤ length (now s) ⌝ }
-    ensures { λ r. ⌜ r ≡ all inLine (take 16 (drop from (now (s .entry)))) ⌝ }
+fn lesser_of(a: u8, b: u8) -> u8
+    ensures { λ r. ⌜ r ≡ lesser a b ⌝ }
 {
-    let mut r = true;
+    if a < b { a } else { b }
+}
+
+// Where the line ends in the 64 bytes at a place, 64 where it goes on. Each turn does the same, so that the turns are done at once.
+fn end_in_block(s: &[u8], from: usize) -> u8
+    requires { ⌜ from + 64 ≤ length (now s) ⌝ }
+    ensures { λ r. ⌜ r ≡ blockEnd (now (s .entry)) from ⌝ }
+{
+    let mut r = 64;
     let mut k = 0;
-    while k < 16 {
-        r = still(r, s[from + k]);
+    while k < 64 {
+        r = lesser_of(lf_at(k as u8, s[from + k]), r);
         k += 1;
     }
     r
 }
 
-// A place of the same line, near its end: sixteen bytes a turn.
-fn near_end(s: &[u8], from: usize) -> usize
-    ensures { λ r. ⌜ r + length (takeWhile inLine (drop r (now (s .entry)))) ≡ from + length (takeWhile inLine (drop from (now (s .entry)))) ⌝ }
+// Byte after byte.
+fn short_end(s: &[u8], from: usize) -> usize
+    ensures { λ r. ⌜ r ≡ from + length (takeWhile inLine (drop from (now (s .entry)))) ⌝ }
 {
     let mut i = from;
     while i < s.len() {
-        if s.len() - i < 16 {
-            return i;
-        }
-        if goes_on(s, i) {
-            i += 16;
+        if in_line(s[i]) {
+            i += 1;
         } else {
             return i;
         }
@@ -208,13 +211,16 @@ fn near_end(s: &[u8], from: usize) -> usize
 pub(crate) fn line_end(s: &[u8], from: usize) -> usize
     ensures { λ r. ⌜ r ≡ from + length (takeWhile inLine (drop from (now (s .entry)))) ⌝ }
 {
-    let mut i = near_end(s, from);
+    let mut i = from;
     while i < s.len() {
-        if in_line(s[i]) {
-            i += 1;
-        } else {
-            return i;
+        if s.len() - i < 64 {
+            return short_end(s, i);
         }
+        let n = wide(end_in_block(s, i));
+        if n < 64 {
+            return i + n;
+        }
+        i += 64;
     }
     i
 }
