@@ -271,27 +271,48 @@ module _ {host table : Bytes} {at : ℕ} {q : Stop} (S : Stopped host table at q
       pub other-less : (next ≡ start → ⊥) → at < length table → length table - next < length table - at
       other-less n h = omega (arith, to-other S e .idle .onward, P .onward, n)
 
-pub shallow-starts : {kinds host table : Bytes} (d : ℕ) {from : ℕ} → Passes kinds host table from → Shallow host table d from from
-shallow-starts {host = host} {table = table} d {from = from} P = shallow-of d (idle-none host table from (P .inside))
+pub passes-stands : {kinds host table : Bytes} {d start from : ℕ} → Passes kinds host table d start from → Stands (lastOf (suc d) (labels host)) host start
+passes-stands P = P .stands
+
+pub passes-start : {kinds host table : Bytes} {d start from : ℕ} → Passes kinds host table d start from → start ≤ length host
+passes-start P = P .stands .inside
+
+pub shallow-starts : {kinds host table : Bytes} {d start from : ℕ} → Passes kinds host table d start from → Shallow host table d from from
+shallow-starts {host = host} {table = table} {d = d} {from = from} P = shallow-of d (idle-none host table from (P .inside))
 
 -- ---- the pass over the table
 
 shallow-deeps : {host table : Bytes} {e m d at to : ℕ} → Deeps host table e m d at → Shallow host table d at to → Deeps host table e m d to
 shallow-deeps D I = record { pass = record { is = rw (← I .best) (D .pass .is) }; depth = sym (I .depth) ∙ D .depth }
 
-pub passes-first : {kinds host table : Bytes} → KindsOf host kinds → length table ≤ 1048576 → Passes kinds host table 0
-passes-first K h = record { kinds-are = K; inside = omega arith; short = h }
+pub passes-first : {kinds host table : Bytes} {last : ℕ} → KindsOf host kinds → Stands (lastOf 1 (labels host)) host last → length table ≤ 1048576 → Passes kinds host table 0 last 0
+passes-first K S h = record { kinds-are = K; stands = S; inside = omega arith; short = h }
 
-pub record Round (classes kinds host tail table : Bytes) (e m d at : ℕ) : Type 0 where
+-- the place for the larger depth
+pub deeper-more : (host : Bytes) (depth d : ℕ) {r : ℕ} → depth < d → Stands (lastOf (suc d) (labels host)) host r → Stands (lastOf (suc (max depth d)) (labels host)) host r
+deeper-more host depth d h S = let z : max depth d ≡ d = omega arith in rw z S
+
+pub deeper-same : (host : Bytes) (depth d : ℕ) {r : ℕ} → d ≤ depth → Stands (lastOf (suc depth) (labels host)) host r → Stands (lastOf (suc (max depth d)) (labels host)) host r
+deeper-same host depth d h S = let z : max depth d ≡ depth = omega arith in rw z S
+
+pub record Round (classes kinds host tail table : Bytes) (e m d start at : ℕ) : Type 0 where
   pub short : length table ≤ 1048576
   pub classes-are : Classifies classes
   pub tail-of : Tail host tail
-  pub lent : Passes kinds host table 0
+  pub lent : KindsOf host kinds
+  pub stands : Stands (lastOf (suc d) (labels host)) host start
   pub deeps : Deeps host table e m d at
 
-pub round-starts : {classes kinds host tail table : Bytes} {at : ℕ} → Shallow host table 0 0 at → Classifies classes → Tail host tail → Passes kinds host table 0 → Round classes kinds host tail table 0 0 0 at
-round-starts {host = host} {table = table} I C T P =
-    record { short = P .short; classes-are = C; tail-of = T; lent = P; deeps = shallow-deeps (deeps-starts host table (P .short)) I }
+pub round-starts : {classes kinds host tail table : Bytes} {last at : ℕ} → Shallow host table 0 0 at → Classifies classes → Tail host tail → Passes kinds host table 0 last 0
+    → Round classes kinds host tail table 0 0 0 last at
+round-starts {host = host} {table = table} I C T P = record {
+  short = P .short;
+  classes-are = C;
+  tail-of = T;
+  lent = P .kinds-are;
+  stands = P .stands;
+  deeps = shallow-deeps (deeps-starts host table (P .short)) I;
+}
 
 -- one line
 pub line-wrong : (host w : Bytes) {q : Best} → q ≡ bestOf (labels host) (readLine w) → q ≡ Bad → Wrong ≡ depthsOf (labels host) (readLine w)
@@ -318,26 +339,26 @@ unfolding depthsOf bestOf
 wrong-bad hl none f = refl
 wrong-bad hl (some rs) f = let z : _≡_ {A = ℕ} 0 1 = cc in absurd (omega arith)
 
-module _ {classes kinds host tail table : Bytes} {a b c at : ℕ} (R : Round classes kinds host tail table a b c at) where
+pub part-start : (table : Bytes) {at to : ℕ} → to ≡ at + length (takeWhile inContent (drop at table)) → at ≤ to
+part-start table {at} {to} g = scan-from inContent table at to g
+
+pub part-end : (table : Bytes) {at to : ℕ} → to ≡ at + length (takeWhile inContent (drop at table)) → at < length table → to ≤ length table
+part-end table {at} {to} g l = scan-to inContent table at to g (omega arith)
+
+module _ {classes kinds host tail table : Bytes} {a b c start at : ℕ} (R : Round classes kinds host tail table a b c start at) where
   pub round-ends : length table ≤ at → Found a b c ≡ depthsOf (labels host) (readTable table)
   round-ends l = deeps-ends (R .deeps) (R .short) l
 
   module _ {to : ℕ} (g : to ≡ at + length (takeWhile inContent (drop at table))) where
-    pub round-start : at ≤ to
-    round-start = scan-from inContent table at to g
-
-    pub round-end : at < length table → to ≤ length table
-    round-end l = scan-to inContent table at to g (omega arith)
-
     module _ {k : ℕ} (i : k ≡ to + length (takeWhile inLine (drop to table))) (l : at < length table) where
       pub round-fits : Fits w64 (k + 1)
       round-fits = pass-fits table i g l (R .short)
 
-      pub round-lends : Passes kinds host table (k + 1)
-      round-lends =
+      pub round-lends : (d : ℕ) {z r : ℕ} → z ≡ max c d → Stands (lastOf (suc (max c d)) (labels host)) host r → Passes kinds host table z r (k + 1)
+      round-lends d w S =
           let a : to ≤ length table = scan-to inContent table at to g (omega arith) in
           let b : k ≤ length table = scan-to inLine table to k i a in
-          record { kinds-are = R .lent .kinds-are; inside = omega arith; short = R .short }
+          record { kinds-are = R .lent; stands = rw w S; inside = omega arith; short = R .short }
 
       pub round-less : {d from : ℕ} → Shallow host table d (k + 1) from → length table - from < length table - at
       round-less I = omega (arith, i, g, l, I .onward)
@@ -346,12 +367,12 @@ module _ {classes kinds host tail table : Bytes} {a b c at : ℕ} (R : Round cla
       pub round-wrong : q ≡ Wrong → Wrong ≡ depthsOf (labels host) (readTable table)
       round-wrong e = deeps-bad (R .deeps) g {q = bestOf (labels host) (readLine (take (to - at) (drop at table)))} refl (wrong-bad (labels host) (readLine (take (to - at) (drop at table))) (sym e ∙ t))
 
-      pub round-more : {from k e m d x y z : ℕ} → q ≡ Found e m d → Shallow host table z (k + 1) from → k ≡ to + length (takeWhile inLine (drop to table))
-          → x ≡ max a e → y ≡ max b m → z ≡ max c d → Round classes kinds host tail table x y z from
-      round-more {e = e} {m = m} {d = d} f I i u v w =
+      pub round-more : {from k e m d x y z r : ℕ} → q ≡ Found e m d → Shallow host table z (k + 1) from → k ≡ to + length (takeWhile inLine (drop to table))
+          → x ≡ max a e → y ≡ max b m → z ≡ max c d → Stands (lastOf (suc (max c d)) (labels host)) host r → Round classes kinds host tail table x y z r from
+      round-more {e = e} {m = m} {d = d} f I i u v w S =
           let o = readLine (take (to - at) (drop at table)) in
           let D = deeps-more (R .deeps) g {q = bestOf (labels host) o} refl (sym (to-best table host e m d o (sym f ∙ t))) i u v w (found-depth (labels host) o e m d (sym f ∙ t)) in
-          record { short = R .short; classes-are = R .classes-are; tail-of = R .tail-of; lent = R .lent; deeps = shallow-deeps D I }
+          record { short = R .short; classes-are = R .classes-are; tail-of = R .tail-of; lent = R .lent; stands = rw w S; deeps = shallow-deeps D I }
 
 pub ruleset block-laws = (block-starts, block-ends, block-more, needs)
 
@@ -387,7 +408,11 @@ pub ruleset skip-laws = (
   other-stop,
   other-passed,
   other-less,
+  passes-stands,
+  passes-start,
   shallow-starts,
+  deeper-more,
+  deeper-same,
   tail-more,
   tail-whole,
   needs,

@@ -1,11 +1,12 @@
 -- Lines of the table that find nothing for a host, as one loop over their bytes passes over them.
 use mathlib.Core.Path.{_≡_}
 use mathlib.Core.Bool.{Bool, true, false, _&&_, _||_}
-use Prim.Native.Nat.{ℕ, _+_, _-_, _*_, _≤_, _<_, max}
+use Prim.Native.Nat.{ℕ, suc, _+_, _-_, _*_, _≤_, _<_, max}
 use lib.ListN.{length, take, drop, getD}
 use lib.Dec.{eqb, leb, ltb}
-use Rattle.ascii.specs.Ascii.{Bytes, if_then_else_, takeWhile, splitAt, isDigit, isLetter, lowerByte}
+use Rattle.ascii.specs.Ascii.{Bytes, if_then_else_, takeWhile, lastOf, splitAt, isDigit, isLetter, lowerByte}
 use Rattle.suffix.specs.Host.{labels, isHost}
+use Rattle.suffix.specs.Place.{Stands}
 use Rattle.suffix.specs.Suffix.{readLines}
 use Rattle.suffix.specs.Pass.{bestOf, inLine, inContent}
 use Rattle.suffix.specs.Depth.{linesDepth}
@@ -81,9 +82,11 @@ pub data Stopped (host table : Bytes) (from : ℕ) : Stop → Type 0 where
   at-host : {start to : ℕ} → Idle host table from start → HostLine table start to → Stopped host table from (Host start to)
   at-other : {start : ℕ} → Idle host table from start → start ≤ length table → Stopped host table from (Other start)
 
--- what the pass over such lines is lent: the kinds for the host, and a place of a table that is not too long
-pub record Passes (kinds host table : Bytes) (from : ℕ) : Type 0 where
+-- what the pass over such lines is lent: the kinds for the host, the depth d that is known and where the labels begin that are one
+-- more, and a place of a table that is not too long
+pub record Passes (kinds host table : Bytes) (d start from : ℕ) : Type 0 where
   pub kinds-are : KindsOf host kinds
+  pub stands : Stands (lastOf (suc d) (labels host)) host start
   pub inside : from ≤ length table + 1
   pub short : length table ≤ 1048576
 

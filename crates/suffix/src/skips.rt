@@ -2,7 +2,7 @@
 use crate::hosts;
 ghost use mathlib.Core.Path.{_≡_};
 ghost use mathlib.Core.Bool.{_||_, not};
-ghost use Prim.Native.Nat.{suc, _+_, _≤_, _<_};
+ghost use Prim.Native.Nat.{suc, _+_, _≤_, _<_, max};
 ghost use lib.ListN.{length, getD, drop};
 ghost use lib.Dec.{eqb};
 ghost use Rattle.ascii.specs.Ascii.{if_then_else_, takeWhile, lastOf};
@@ -192,8 +192,8 @@ fn end_in_block(s: &[u8], from: usize) -> u8
     r
 }
 
-// Byte after byte.
-fn short_end(s: &[u8], from: usize) -> usize
+// The same byte after byte, for a line that ends soon.
+pub(crate) fn short_end(s: &[u8], from: usize) -> usize
     ensures { λ r. ⌜ r ≡ from + length (takeWhile inLine (drop from (now (s .entry)))) ⌝ }
 {
     let mut i = from;
@@ -274,7 +274,7 @@ fn is_idle(host: &[u8], tail: &[u8], w: &[u8]) -> bool
     true
 }
 
-// Where the labels begin that are one more than the depth, the host where it has no more.
+// Where the labels begin that are one more than the depth; the host's start where it has no more.
 fn tail_start(host: &[u8], depth: usize) -> usize
     ensures { λ r. ⌜ Stands (lastOf (suc depth) (labels (now (host .entry)))) (now (host .entry)) r ⌝ }
 {
@@ -284,18 +284,29 @@ fn tail_start(host: &[u8], depth: usize) -> usize
     0
 }
 
-// The first line that may match the host, or go deeper than more of its labels than the depth.
+// The same for the larger of two depths, where the place is known for one.
+pub(crate) fn deeper_tail(host: &[u8], depth: usize, start: usize, d: usize) -> usize
+    requires { ⌜ Stands (lastOf (suc depth) (labels (now host))) (now host) start ⌝ }
+    ensures { λ r. ⌜ Stands (lastOf (suc (max depth d)) (labels (now (host .entry)))) (now (host .entry)) r ⌝ }
+{
+    if depth < d {
+        return tail_start(host, d);
+    }
+    start
+}
+
+// The first line that may match the host, or go deeper than more of its labels than the depth, whose labels and one more begin at last.
 pub(crate) fn idle_lines(
     kinds: &[u8; 256],
     host: &[u8],
     depth: usize,
+    last: usize,
     s: &[u8],
     from: usize,
 ) -> usize
-    requires { ⌜ Passes (now kinds) (now host) (now s) from ⌝ }
+    requires { ⌜ Passes (now kinds) (now host) (now s) depth last from ⌝ }
     ensures { λ r. ⌜ Shallow (now (host .entry)) (now (s .entry)) depth from r ⌝ }
 {
-    let last = tail_start(host, depth);
     let tail = &host[last..];
     let mut at = from;
     while at < s.len() {
