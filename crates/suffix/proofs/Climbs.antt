@@ -55,7 +55,7 @@ last-whole : (ls : List Bytes) → lastOf (length ls) ls ≡ ls
 unfolding lastOf
 last-whole ls = let e : length ls - length ls ≡ 0 = omega arith in rw e
 
-depth-le : (hl : List Bytes) (r : Rule) → depthOf hl r ≤ length hl
+pub depth-le : (hl : List Bytes) (r : Rule) → depthOf hl r ≤ length hl
 unfolding depthOf
 depth-le [] r = omega arith
 depth-le (l ∷ ls) r = go (goesDeeper (l ∷ ls) r) (depth-le ls r)
@@ -288,7 +288,7 @@ table-read : (table : Bytes) → length table ≤ 1048576 → readLines (splitAt
 unfolding readTable
 table-read table l = rw (le-leb (length table) 1048576 l)
 
-wrong-best : (hl : List Bytes) (o : Option (List Rule)) → Bad ≡ bestOf hl o → Wrong ≡ depthsOf hl o
+pub wrong-best : (hl : List Bytes) (o : Option (List Rule)) → Bad ≡ bestOf hl o → Wrong ≡ depthsOf hl o
 unfolding bestOf sizes depthsOf
 wrong-best hl none e = refl
 wrong-best hl (some rs) e = let z : _≡_ {A = ℕ} 0 1 = cc in absurd (omega arith)
@@ -304,18 +304,9 @@ module _ {host table : Bytes} {e m d at : ℕ} (D : Deeps host table e m d at) w
       plain d = omega arith
 
   module _ {to : ℕ} (g : to ≡ at + length (takeWhile inContent (drop at table))) where
-    pub deeps-part-start : at ≤ to
-    deeps-part-start = scan-from inContent table at to g
-
-    pub deeps-part-end : at < length table → to ≤ length table
-    deeps-part-end l = scan-to inContent table at to g (omega arith)
-
     module _ {q : Best} (t : q ≡ bestOf (labels host) (readLine (take (to - at) (drop at table)))) where
       pub deeps-bad : q ≡ Bad → Wrong ≡ depthsOf (labels host) (readTable table)
       deeps-bad b = wrong-best (labels host) (readTable table) (pass-bad (D .pass) g t b)
-
-      pub deeps-good : {f n : ℕ} → q ≡ Sizes f n → Good (take (to - at) (drop at table))
-      deeps-good b = line-good (labels host) (take (to - at) (drop at table)) t b
 
       pub deeps-more : {f n k x y p z : ℕ} → q ≡ Sizes f n → k ≡ to + length (takeWhile inLine (drop to table)) → x ≡ max e f → y ≡ max m n
           → z ≡ max d p → p ≡ lineDepth (labels host) (readLine (take (to - at) (drop at table))) → Deeps host table x y z (k + 1)
@@ -323,9 +314,6 @@ module _ {host table : Bytes} {e m d at : ℕ} (D : Deeps host table e m d at) w
           let r : p ≡ lineDepth (labels host) (readLine (takeWhile inContent (drop at table))) = o ∙ rw (scan-part inContent table at to g) in
           let s = lines-on (linesDepth (labels host)) (λ l. lineDepth (labels host) (readLine l)) max (lines-more (labels host)) (lines-done (labels host)) table at k (next-line table at to k g i) in
           record { pass = pass-more (D .pass) g t b i c v; depth = omega (arith, w, r, s, D .depth) }
-
-  pub deeps-less : {to k : ℕ} → to ≡ at + length (takeWhile inContent (drop at table)) → k ≡ to + length (takeWhile inLine (drop to table)) → at < length table → length table - (k + 1) < length table - at
-  deeps-less g i l = omega (arith, g, i)
 
 -- ---- the answer
 
@@ -364,7 +352,7 @@ module _ (table host : Bytes) where
   start-owner (bad-table t) e = let z : _≡_ {A = ℕ} 0 1 = cc in absurd (omega arith)
   start-owner {start} (owner-is {start = i} t L) e = let z : i ≡ start = cc in rw (← z) (L .place)
 
-  to-best : (e m d : ℕ) (o : Option (List Rule)) → Found e m d ≡ depthsOf (labels host) o → Sizes e m ≡ bestOf (labels host) o
+  pub to-best : (e m d : ℕ) (o : Option (List Rule)) → Found e m d ≡ depthsOf (labels host) o → Sizes e m ≡ bestOf (labels host) o
   unfolding bestOf sizes depthsOf
   to-best e m d none f = let z : _≡_ {A = ℕ} 0 1 = cc in absurd (omega arith)
   to-best e m d (some rs) f =

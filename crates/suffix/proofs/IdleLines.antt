@@ -8,24 +8,25 @@ use native.Mathlib.Numerals.{add-one}
 use lib.ListN.{length, getD, take, drop, length-drop, List·getD-map}
 use lib.Seq.{drop-cons, getD-drop}
 use lib.Dec.{eqb, leb, ltb}
-use borrow.Author.Tests.{eq-eqb, ne-eqb, eqb-true, eqb-false, leb-true}
+use borrow.Author.Tests.{eq-eqb, ne-eqb, eqb-true, eqb-false, leb-true, leb-false, ltb-true, ltb-false}
 use Rattle.ascii.specs.Ascii.{Bytes, if_then_else_, takeWhile, lastOf, isUpper, lowerByte, lower, same, sameNoCase, splitAt, isDigit, isLetter, beginsWith}
 use Rattle.ascii.proofs.Scan.{scan-to}
+use Rattle.ascii.proofs.Split.{join-split}
 use Rattle.suffix.specs.Host.{labels, isLabelByte, isHost}
-use Rattle.suffix.specs.Place.{isBoundary, endsAtLabel}
+use Rattle.suffix.specs.Place.{Stands, isBoundary, endsAtLabel}
 use Rattle.suffix.specs.Suffix.{normal, isBlank, isSkipped, readRule, readLines}
 use Rattle.suffix.specs.Pass.{bestOf, joinBest, oneRule, readLine, inLine, inContent}
 use Rattle.suffix.specs.Depth.{depthOf, lineDepth, linesDepth, Tail}
 use Rattle.suffix.specs.Deeper.{goesDeeper}
 use Rattle.suffix.specs.declared.Best.{Best}
 use Rattle.suffix.specs.declared.Best.the-variants.{Bad, Sizes}
-use Rattle.suffix.specs.Idle.{Idle, Skipped, lastByte, isPlain}
+use Rattle.suffix.specs.Idle.{Idle, Skipped, Shallow, lastByte, isPlain}
 use Rattle.suffix.proofs.Ends.{true-false, same-eq, labels-some, Begin, begin-labels, begin-is}
 use Rattle.suffix.proofs.Shapes.{host-empty}
 use Rattle.suffix.proofs.Lines.{no-host, rule-host, host-no, begins-is, other-read, line-empty, line-comment}
 use Rattle.suffix.proofs.Passes.{join-zero, lines-at, lines-on}
 use Rattle.suffix.proofs.Deepens.{name-not}
-use Rattle.suffix.proofs.Climbs.{shallow, depth-one, lines-more, lines-done, depth-empty, depth-comment}
+use Rattle.suffix.proofs.Climbs.{depth-le, leb-depth, depth-one, lines-more, lines-done, depth-empty, depth-comment}
 use Rattle.suffix.proofs.PlainHosts.{no-plain, dot-plain}
 
 -- ---- places
@@ -51,7 +52,7 @@ idle-line host table at to h g b d =
 -- ---- comments and empty lines
 
 module _ (host table : Bytes) (at : ℕ) (h : at < length table) where
-  idle-empty : getD table at 0 ≡ 10 → Idle host table at (at + 1)
+  pub idle-empty : getD table at 0 ≡ 10 → Idle host table at (at + 1)
   unfolding takeWhile inContent inLine
   idle-empty e =
       let l : drop at table ≡ 10 ∷ drop (suc at) table = drop-cons table at 0 h ∙ rw e in
@@ -67,7 +68,7 @@ module _ (host table : Bytes) (at : ℕ) (h : at < length table) where
         let q : at + 2 ≡ suc (suc at) = omega arith in
         drop-cons table at 0 h ∙ rw (e, q, drop-cons table (suc at) 0 m, ← p, f)
 
-    idle-comment : {to : ℕ} → to ≡ at + 2 + length (takeWhile inLine (drop (at + 2) table)) → Idle host table at (to + 1)
+    pub idle-comment : {to : ℕ} → to ≡ at + 2 + length (takeWhile inLine (drop (at + 2) table)) → Idle host table at (to + 1)
     unfolding takeWhile inContent inLine isBlank beginsWith
     idle-comment {to} g =
         let i : to ≡ at + length (takeWhile inLine (drop at table)) = rw two (omega (arith, g)) in
@@ -90,16 +91,24 @@ host-read w h = rw (other-read w some (first (beginsWith (47 ∷ 47 ∷ []) w) r
     first false e = refl
     first true e = true-false (sym h ∙ ap isHost (begins-is (47 ∷ 47 ∷ []) w e) ∙ no-host 47 (47 ∷ drop 2 w) slash (λ z. omega arith))
 
--- a host that is no end of the other, and has not its last label for an end
-pub record Finds (host w : Bytes) : Type 0 where
+-- a host that is no end of the other, and has not the other's last labels, one more than d, for an end
+pub record FindsTo (host w : Bytes) (d : ℕ) : Type 0 where
   pub best : Sizes 0 0 ≡ bestOf (labels host) (readLine w)
-  pub depth : 0 ≡ lineDepth (labels host) (readLine w)
+  pub depth : lineDepth (labels host) (readLine w) ≤ d
 
-pub finds-none : (host tail w : Bytes) → isHost w ≡ true → Tail host tail → endsAtLabel w host ≡ false → endsAtLabel tail w ≡ false → Finds host w
-finds-none host tail w h T e f = record {
+pub finds-to : (host tail w : Bytes) (d : ℕ) → isHost w ≡ true → labels tail ≡ lastOf (suc d) (labels host) → endsAtLabel w host ≡ false → endsAtLabel tail w ≡ false → FindsTo host w d
+finds-to host tail w d h T e f = record {
   best = rw (host-read w h) (host-no host w h (sym e) refl);
-  depth = rw (host-read w h, rule-host w h) (shallow host tail (normal (labels w)) T (name-not tail w h false (sym f) refl) refl ∙ depth-one (labels host) (normal (labels w)));
+  depth = rw (host-read w h, rule-host w h, ← depth-one (labels host) (normal (labels w))) (go (ltb d (length (labels host))) refl);
 }
+  where
+    go : (u : Bool) → ltb d (length (labels host)) ≡ u → depthOf (labels host) (normal (labels w)) ≤ d
+    go true l =
+        let n : false ≡ goesDeeper (labels tail) (normal (labels w)) = name-not tail w h false (sym f) refl in
+        let m = leb-depth (suc d) (labels host) (normal (labels w)) (omega arith) (ltb-true d (length (labels host)) l) in
+        let o = leb-false (suc d) (depthOf (labels host) (normal (labels w))) (sym m ∙ ap (λ (ls : List Bytes). goesDeeper ls (normal (labels w))) (sym T) ∙ sym n) in
+        omega (arith, o)
+    go false l = omega (arith, ltb-false d (length (labels host)) l, depth-le (labels host) (normal (labels w)))
 
 -- ---- last bytes
 
@@ -161,10 +170,10 @@ none-of : (b : Bool) → (b ≡ true → ⊥) → b ≡ false
 none-of true n = absurd (n refl)
 none-of false n = refl
 
-pub finds-unlike : (host w : Bytes) → isHost w ≡ true → isPlain (lastByte w) ≡ true → (lowerByte (lastByte w) ≡ lowerByte (lastByte host) → ⊥) → Finds host w
+pub finds-unlike : (host w : Bytes) → isHost w ≡ true → isPlain (lastByte w) ≡ true → (lowerByte (lastByte w) ≡ lowerByte (lastByte host) → ⊥) → FindsTo host w 0
 finds-unlike host w h p n =
     let E = ending host in
-    finds-none host (E .tail) w h (E .is) (none-of (endsAtLabel w host) (λ e. n (ends-last w host some e))) (none-of (endsAtLabel (E .tail) w) (apart (E .tail) (E .last)))
+    finds-to host (E .tail) w 0 h (E .is .is) (none-of (endsAtLabel w host) (λ e. n (ends-last w host some e))) (none-of (endsAtLabel (E .tail) w) (apart (E .tail) (E .last)))
   where
     some : 1 ≤ length w
     some = go (length w) refl
@@ -176,3 +185,28 @@ finds-unlike host w h p n =
     apart : (t : Bytes) → (1 ≤ length t → lastByte t ≡ lastByte host) → endsAtLabel t w ≡ true → ⊥
     apart [] f e = no-plain (lastByte w) 46 p (ends-empty w some e) dot-plain
     apart (b ∷ t) f e = n (sym (ends-last (b ∷ t) w (omega arith) e) ∙ ap lowerByte (f (omega arith)))
+
+-- ---- the host's last labels, one more than the depth d
+
+pub tail-more : (host : Bytes) (d : ℕ) {n r : ℕ} → d < n → n ≡ length (labels host) → Stands (lastOf (d + 1) (labels host)) host r → Stands (lastOf (suc d) (labels host)) host r
+tail-more host d {r = r} h e S = rw (add-one) at S
+
+pub tail-whole : (host : Bytes) (d : ℕ) {n : ℕ} → n ≤ d → n ≡ length (labels host) → Stands (lastOf (suc d) (labels host)) host 0
+unfolding lastOf labels
+tail-whole host d h e = let z : length (splitAt 46 host) - suc d ≡ 0 = omega (arith, e) in record { inside = omega arith; is = rw z (sym (join-split 46 host)) }
+
+pub shallow-line : (host table : Bytes) (d at to : ℕ) → at ≤ length table → to ≡ at + length (takeWhile inLine (drop at table)) → FindsTo host (takeWhile inContent (drop at table)) d → Shallow host table d at (to + 1)
+shallow-line host table d at to h g F =
+    let s = lines-on (linesDepth (labels host)) (λ l. lineDepth (labels host) (readLine l)) max (lines-more (labels host)) (lines-done (labels host)) table at to g in
+    record {
+      onward = omega (arith, g);
+      inside = omega (arith, scan-to inLine table at to g h);
+      best = lines-at (labels host) table at to g ∙ rw (← F .best) (join-zero (bestOf (labels host) (readLines (splitAt 10 (drop (to + 1) table)))));
+      depth = omega (arith, s, F .depth);
+    }
+
+pub shallow-of : {host table : Bytes} (d : ℕ) {from to : ℕ} → Idle host table from to → Shallow host table d from to
+shallow-of d I = record { onward = I .onward; inside = I .inside; best = I .best; depth = ap (max d) (I .depth) }
+
+pub shallow-on : {host table : Bytes} {d from at to : ℕ} → Shallow host table d from at → Shallow host table d at to → Shallow host table d from to
+shallow-on I J = record { onward = omega (arith, I .onward, J .onward); inside = J .inside; best = I .best ∙ J .best; depth = I .depth ∙ J .depth }

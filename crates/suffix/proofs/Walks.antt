@@ -14,8 +14,9 @@ use borrow.Author.Needs.{needs}
 use borrow.Author.Tests.{eq-eqb, ne-eqb, eqb-true, eqb-false, lt-ltb, le-ltb, ltb-true, leb-true}
 use Rattle.ascii.specs.Ascii.{Bytes, if_then_else_, takeWhile, lowerByte}
 use Rattle.ascii.proofs.Scan.{scan-part}
-use Rattle.suffix.specs.Host.{isHost}
-use Rattle.suffix.specs.Pass.{inLine, inContent}
+use Rattle.suffix.specs.Host.{labels, isHost}
+use Rattle.suffix.specs.Pass.{readLine, inLine, inContent}
+use Rattle.suffix.specs.Depth.{lineDepth}
 use Rattle.suffix.specs.Idle.{Idle, lastByte, isPlain, kindOf, KindsOf, stepOf, stopOf, HostLine, Stopped, at-host, at-other}
 use Rattle.suffix.specs.declared.skips.Step.{Step}
 use Rattle.suffix.specs.declared.skips.Step.the-variants.{On, Off}
@@ -24,7 +25,7 @@ use Rattle.suffix.specs.declared.skips.Stop.the-variants.{Host, Other}
 use Rattle.suffix.proofs.Passes.{line-lf, line-other}
 use Rattle.suffix.proofs.KindLaws.{kind-lf}
 use Rattle.suffix.proofs.PlainHosts.{no-plain, lf-plain, mayFollow, shapeFrom, shape-content, shape-host}
-use Rattle.suffix.proofs.IdleLines.{idle-none, idle-on, idle-line, Finds, finds-unlike}
+use Rattle.suffix.proofs.IdleLines.{idle-none, idle-on, idle-line, FindsTo, finds-unlike}
 
 -- ---- what a kind tells
 
@@ -210,10 +211,10 @@ unlike-of last b k (is-dot e) z w = omega arith
 unlike-of last b k (is-lf e) z w = omega arith
 unlike-of last b k is-rest z w = omega arith
 
-module _ {host table : Bytes} {from start i p room : ℕ} (W : Walk host table from start i p (suc room)) (l : i < length table) where
-  prev : ℕ
-  prev = prevOf table start i
+none-deep : {host w : Bytes} → FindsTo host w 0 → 0 ≡ lineDepth (labels host) (readLine w)
+none-deep F = omega (arith, F .depth)
 
+module _ {host table : Bytes} {from start i p room : ℕ} (W : Walk host table from start i p (suc room)) (l : i < length table) where
   prev-is : KindIs (lastByte host) (prevOf table start i) p
   prev-is = rw (W .kind) (kind-is (lastByte host) (prevOf table start i))
 
@@ -225,7 +226,7 @@ module _ {host table : Bytes} {from start i p room : ℕ} (W : Walk host table f
       let b = last-before table start i (W .inside) f in
       let F = finds-unlike host (take (i - start) (drop start table)) (L .host) (ap isPlain b ∙ f)
       (λ y. unlike-of (lastByte host) (prevOf table start i) p prev-is z (ap lowerByte (sym b) ∙ y)) in
-      idle-on host table (W .idle) (idle-line host table start i (omega (arith, W .onward, W .inside)) (L .ends) (rw (L .whole) (F .best)) (rw (L .whole) (F .depth)))
+      idle-on host table (W .idle) (idle-line host table start i (omega (arith, W .onward, W .inside)) (L .ends) (rw (L .whole) (F .best)) (rw (L .whole) (none-deep F)))
 
   byte-passed : (getD table i 0 ≡ 10 → ⊥) → p + 3 * kindOf (lastByte host) (getD table i 0) ≤ 24 → Walk host table from start (i + 1) (kindOf (lastByte host) (getD table i 0)) room
   byte-passed n h =

@@ -1,11 +1,12 @@
 -- Lines of the table that find nothing for a host, as one loop over their bytes passes over them.
 use mathlib.Core.Path.{_≡_}
 use mathlib.Core.Bool.{Bool, true, false, _&&_, _||_}
-use Prim.Native.Nat.{ℕ, _+_, _-_, _*_, _≤_, _<_}
+use Prim.Native.Nat.{ℕ, suc, _+_, _-_, _*_, _≤_, _<_, max}
 use lib.ListN.{length, take, drop, getD}
-use lib.Dec.{eqb, leb}
-use Rattle.ascii.specs.Ascii.{Bytes, if_then_else_, takeWhile, splitAt, isDigit, isLetter, lowerByte}
+use lib.Dec.{eqb, leb, ltb}
+use Rattle.ascii.specs.Ascii.{Bytes, if_then_else_, takeWhile, lastOf, splitAt, isDigit, isLetter, lowerByte}
 use Rattle.suffix.specs.Host.{labels, isHost}
+use Rattle.suffix.specs.Place.{Stands}
 use Rattle.suffix.specs.Suffix.{readLines}
 use Rattle.suffix.specs.Pass.{bestOf, inLine, inContent}
 use Rattle.suffix.specs.Depth.{linesDepth}
@@ -26,6 +27,17 @@ pub record Skipped (table : Bytes) (from to : ℕ) : Type 0 where
   pub onward : from ≤ to
   pub inside : to ≤ length table + 1
   pub is : (host : Bytes) → Idle host table from to
+
+-- how many of the 64 bytes at a place are before the line's end
+unfoldable pub blockEnd : Bytes → ℕ → ℕ
+blockEnd s from = length (takeWhile inLine (take 64 (drop from s)))
+
+-- the place k of an LF, 64 of another byte; and the lesser of two places
+unfoldable pub lfAt : ℕ → ℕ → ℕ
+lfAt k b = if eqb b 10 then k else 64
+
+unfoldable pub lesser : ℕ → ℕ → ℕ
+lesser a b = if ltb a b then a else b
 
 unfoldable pub lastByte : Bytes → ℕ
 lastByte s = getD s (length s - 1) 0
@@ -69,3 +81,18 @@ pub record HostLine (table : Bytes) (start to : ℕ) : Type 0 where
 pub data Stopped (host table : Bytes) (from : ℕ) : Stop → Type 0 where
   at-host : {start to : ℕ} → Idle host table from start → HostLine table start to → Stopped host table from (Host start to)
   at-other : {start : ℕ} → Idle host table from start → start ≤ length table → Stopped host table from (Other start)
+
+-- what the pass over such lines is lent: the kinds for the host, the depth d that is known and where the labels begin that are one
+-- more, and a place of a table that is not too long
+pub record Passes (kinds host table : Bytes) (d start from : ℕ) : Type 0 where
+  pub kinds-are : KindsOf host kinds
+  pub stands : Stands (lastOf (suc d) (labels host)) host start
+  pub inside : from ≤ length table + 1
+  pub short : length table ≤ 1048576
+
+-- the lines from one place to another find nothing but rules that go deeper than at most d labels
+pub record Shallow (host table : Bytes) (d from to : ℕ) : Type 0 where
+  pub onward : from ≤ to
+  pub inside : to ≤ length table + 1
+  pub best : bestOf (labels host) (readLines (splitAt 10 (drop from table))) ≡ bestOf (labels host) (readLines (splitAt 10 (drop to table)))
+  pub depth : max d (linesDepth (labels host) (splitAt 10 (drop from table))) ≡ max d (linesDepth (labels host) (splitAt 10 (drop to table)))

@@ -1,13 +1,16 @@
 // Lines of the table that find nothing for a host, passed over byte after byte.
+use crate::hosts;
 ghost use mathlib.Core.Path.{_≡_};
-ghost use mathlib.Core.Bool.{true};
-ghost use Prim.Native.Nat.{_+_, _≤_, _<_};
-ghost use lib.ListN.{length, getD};
+ghost use mathlib.Core.Bool.{_||_, not};
+ghost use Prim.Native.Nat.{suc, _+_, _≤_, _<_, max};
+ghost use lib.ListN.{length, getD, drop};
 ghost use lib.Dec.{eqb};
-ghost use Rattle.ascii.specs.Ascii.{if_then_else_};
+ghost use Rattle.ascii.specs.Ascii.{if_then_else_, takeWhile, lastOf};
 ghost use Rattle.ascii.specs.Class.{Classifies};
-ghost use Rattle.suffix.specs.Depth.{Tail};
-ghost use Rattle.suffix.specs.Idle.{Idle, Skipped, lastByte, kindOf, KindsOf, stepOf, stopOf, Stopped};
+ghost use Rattle.suffix.specs.Host.{labels};
+ghost use Rattle.suffix.specs.Place.{Stands, endsAtLabel};
+ghost use Rattle.suffix.specs.Pass.{inLine};
+ghost use Rattle.suffix.specs.Idle.{Skipped, blockEnd, lfAt, lesser, lastByte, kindOf, KindsOf, stepOf, stopOf, Stopped, Passes, Shallow};
 
 // One byte on: where its line begins, and the byte's kind.
 pub enum Step {
@@ -152,4 +155,178 @@ fn plain_lines(kinds: &[u8; 256], host: &[u8], s: &[u8], from: usize) -> Stop
         i = next;
     }
     Stop::Other(start)
+}
+
+fn in_line(b: u8) -> bool
+    ensures { λ r. ⌜ r ≡ inLine b ⌝ }
+{
+    if b == 10 {
+        return false;
+    }
+    true
+}
+
+fn lf_at(k: u8, b: u8) -> u8
+    ensures { λ r. ⌜ r ≡ lfAt k b ⌝ }
+{
+    if b == 10 { k } else { 64 }
+}
+
+fn lesser_of(a: u8, b: u8) -> u8
+    ensures { λ r. ⌜ r ≡ lesser a b ⌝ }
+{
+    if a < b { a } else { b }
+}
+
+// Where the line ends in the 64 bytes at a place, 64 where it goes on. Each turn does the same, so that the turns are done at once.
+fn end_in_block(s: &[u8], from: usize) -> u8
+    requires { ⌜ from + 64 ≤ length (now s) ⌝ }
+    ensures { λ r. ⌜ r ≡ blockEnd (now (s .entry)) from ⌝ }
+{
+    let mut r = 64;
+    let mut k = 0;
+    while k < 64 {
+        r = lesser_of(lf_at(k as u8, s[from + k]), r);
+        k += 1;
+    }
+    r
+}
+
+// The same byte after byte, for a line that ends soon.
+pub(crate) fn short_end(s: &[u8], from: usize) -> usize
+    ensures { λ r. ⌜ r ≡ from + length (takeWhile inLine (drop from (now (s .entry)))) ⌝ }
+{
+    let mut i = from;
+    while i < s.len() {
+        if in_line(s[i]) {
+            i += 1;
+        } else {
+            return i;
+        }
+    }
+    i
+}
+
+// Where a line ends: its LF, or the end.
+pub(crate) fn line_end(s: &[u8], from: usize) -> usize
+    ensures { λ r. ⌜ r ≡ from + length (takeWhile inLine (drop from (now (s .entry)))) ⌝ }
+{
+    let mut i = from;
+    while i < s.len() {
+        if s.len() - i < 64 {
+            return short_end(s, i);
+        }
+        let n = wide(end_in_block(s, i));
+        if n < 64 {
+            return i + n;
+        }
+        i += 64;
+    }
+    i
+}
+
+// Behind the line at a place, where it is empty or a comment; the place itself where it is another.
+fn next_line(s: &[u8], at: usize) -> usize
+    requires { ⌜ (at < length (now s)) × (length (now s) ≤ 1048576) ⌝ }
+    ensures { λ r. ⌜ Skipped (now (s .entry)) at r ⌝ }
+{
+    if s[at] == 10 {
+        return at + 1;
+    }
+    if s.len() - at < 2 {
+        return at;
+    }
+    if s[at] != 47 {
+        return at;
+    }
+    if s[at + 1] != 47 {
+        return at;
+    }
+    line_end(s, at + 2) + 1
+}
+
+// Empty lines and comments.
+fn skip_comments(s: &[u8], from: usize) -> usize
+    requires { ⌜ (from ≤ length (now s)) × (length (now s) ≤ 1048576) ⌝ }
+    ensures { λ r. ⌜ Skipped (now (s .entry)) from r ⌝ }
+{
+    let mut at = from;
+    while at < s.len() {
+        let next = next_line(s, at);
+        if next == at {
+            return at;
+        }
+        at = next;
+    }
+    at
+}
+
+// The host w is no end of the host, and the host's last labels no end of w.
+fn is_idle(host: &[u8], tail: &[u8], w: &[u8]) -> bool
+    ensures { λ r. ⌜ r ≡ not (endsAtLabel (now (w .entry)) (now (host .entry)) || endsAtLabel (now (tail .entry)) (now (w .entry))) ⌝ }
+{
+    if hosts::ends_at_label(host, w) {
+        return false;
+    }
+    if hosts::ends_at_label(w, tail) {
+        return false;
+    }
+    true
+}
+
+// Where the labels begin that are one more than the depth; the host's start where it has no more.
+fn tail_start(host: &[u8], depth: usize) -> usize
+    ensures { λ r. ⌜ Stands (lastOf (suc depth) (labels (now (host .entry)))) (now (host .entry)) r ⌝ }
+{
+    if depth < hosts::label_count(host) {
+        return hosts::last_labels(host, depth + 1);
+    }
+    0
+}
+
+// The same for the larger of two depths, where the place is known for one.
+pub(crate) fn deeper_tail(host: &[u8], depth: usize, start: usize, d: usize) -> usize
+    requires { ⌜ Stands (lastOf (suc depth) (labels (now host))) (now host) start ⌝ }
+    ensures { λ r. ⌜ Stands (lastOf (suc (max depth d)) (labels (now (host .entry)))) (now (host .entry)) r ⌝ }
+{
+    if depth < d {
+        return tail_start(host, d);
+    }
+    start
+}
+
+// The first line that may match the host, or go deeper than more of its labels than the depth, whose labels and one more begin at last.
+pub(crate) fn idle_lines(
+    kinds: &[u8; 256],
+    host: &[u8],
+    depth: usize,
+    last: usize,
+    s: &[u8],
+    from: usize,
+) -> usize
+    requires { ⌜ Passes (now kinds) (now host) (now s) depth last from ⌝ }
+    ensures { λ r. ⌜ Shallow (now (host .entry)) (now (s .entry)) depth from r ⌝ }
+{
+    let tail = &host[last..];
+    let mut at = from;
+    while at < s.len() {
+        let found = plain_lines(kinds, host, s, at);
+        match found {
+            Stop::Host(start, to) => {
+                if is_idle(host, tail, &s[start..to]) {
+                    at = to + 1;
+                } else {
+                    return start;
+                }
+            }
+            Stop::Other(start) => {
+                let next = skip_comments(s, start);
+                if next == start {
+                    return start;
+                }
+                at = next;
+            }
+        }
+    }
+    at
 }

@@ -1,0 +1,419 @@
+-- The ends of lines, comments, and the pass over lines that find nothing. Assumes nothing.
+use mathlib.Core.Path.{_≡_, refl, sym, ap, _∙_}
+use mathlib.Core.Bool.{Bool, true, false, _||_, not, or-true}
+use mathlib.Core.List.{List, [], _∷_}
+use mathlib.Core.Option.{Option, none, some}
+use Prim.Native.Nat.{ℕ, zero, suc, _+_, _-_, _≤_, _<_, max}
+use native.Mathlib.Omega.{arith}
+use native.Mathlib.Numerals.{add-one}
+use mir.Val.{Fits}
+use mir.Syntax.{w64}
+use lib.ListN.{length, getD, take, drop, length-drop}
+use lib.Seq.{drop-cons, drop-drop, drop-nil}
+use lib.Dec.{eqb, ltb}
+use borrow.Author.Needs.{needs}
+use borrow.Author.Tests.{eq-eqb, ne-eqb, eqb-true, eqb-false, lt-ltb, le-ltb}
+use Rattle.ascii.specs.Ascii.{Bytes, if_then_else_, filterBy, takeWhile, lastOf, splitAt}
+use Rattle.ascii.specs.Class.{Classifies}
+use Rattle.ascii.proofs.Scan.{scan-end, scan-stop, scan-more, scan-from, scan-to}
+use Rattle.suffix.specs.Host.{labels, isHost}
+use Rattle.suffix.specs.Place.{Stands, endsAtLabel}
+use Rattle.suffix.specs.Suffix.{Rule, readTable, matches}
+use Rattle.suffix.specs.Pass.{maxLabels, sizes, bestOf, readLine, inLine, inContent}
+use Rattle.suffix.specs.Depth.{deepest, lineDepth, linesDepth, depthsOf, Tail}
+use Rattle.suffix.specs.Idle.{Idle, Skipped, blockEnd, lfAt, lesser, KindsOf, HostLine, Stopped, at-host, at-other, Passes, Shallow}
+use Rattle.suffix.specs.declared.Best.{Best}
+use Rattle.suffix.specs.declared.Best.the-variants.{Bad, Sizes}
+use Rattle.suffix.specs.declared.Depths.{Depths}
+use Rattle.suffix.specs.declared.Depths.the-variants.{Wrong, Found}
+use Rattle.suffix.specs.declared.skips.Stop.{Stop}
+use Rattle.suffix.specs.declared.skips.Stop.the-variants.{Host, Other}
+use Rattle.suffix.proofs.Passes.{line-lf, line-other, Pass, pass-fits}
+use Rattle.suffix.proofs.Lines.{rest-whole}
+use Rattle.suffix.proofs.Speed.{last-names}
+use Rattle.suffix.proofs.Climbs.{Deeps, deeps-starts, deeps-more, deeps-bad, deeps-ends, tail-is, wrong-best, to-best}
+use Rattle.suffix.proofs.IdleLines.{idle-none, idle-on, idle-empty, idle-comment, tail-more, tail-whole, finds-to, shallow-line, shallow-of, shallow-on}
+
+-- ---- the end of a line
+
+pub lf-here : (k b : ℕ) → b ≡ 10 → k ≡ lfAt k b
+unfolding lfAt
+lf-here k b e = rw (eq-eqb b 10 e)
+
+pub lf-none : (k b : ℕ) → (b ≡ 10 → ⊥) → 64 ≡ lfAt k b
+unfolding lfAt
+lf-none k b n = rw (ne-eqb b 10 n)
+
+pub lesser-first : (a b : ℕ) → a < b → a ≡ lesser a b
+unfolding lesser
+lesser-first a b h = rw (lt-ltb a b h)
+
+pub lesser-second : (a b : ℕ) → b ≤ a → b ≡ lesser a b
+unfolding lesser
+lesser-second a b h = rw (le-ltb a b h)
+
+-- the end is found before k, or the bytes before k go on
+pub data Seen (w : ℕ) (l : Bytes) (k : ℕ) : ℕ → Type 0 where
+  seen : {r : ℕ} → r < k → r ≡ w → Seen w l k r
+  unseen : k + length (takeWhile inLine (take (64 - k) l)) ≡ w → Seen w l k 64
+
+pub record Block (s : Bytes) (from r k : ℕ) : Type 0 where
+  pub most : k ≤ 64
+  pub is : Seen (blockEnd s from) (drop (from + k) s) k r
+
+pub block-starts : (s : Bytes) (from : ℕ) → Block s from 64 0
+unfolding blockEnd
+block-starts s from = record { most = omega arith; is = unseen (let z : from + 0 ≡ from = omega arith in rw z (omega arith)) }
+
+seen-ends : {w k r : ℕ} {l : Bytes} → Seen w l k r → k ≡ 64 → r ≡ w
+unfolding takeWhile
+seen-ends (seen h e) f = e
+seen-ends {k = k} (unseen e) f = let z : 64 - k ≡ 0 = omega arith in omega (arith, f, rw z at e)
+
+seen-more : {w k r v x : ℕ} (b : ℕ) (l m : Bytes) → Seen w l k r → k < 64 → l ≡ b ∷ m → v ≡ lfAt k b → x ≡ lesser v r → Seen w m (k + 1) x
+unfolding lfAt lesser
+seen-more {w} {k} {r} {v} {x} b l m (seen h e) g f i j = rw kept (seen {r = r} (omega arith) e)
+  where
+    above : k ≤ v
+    above = rw i (go (eqb b 10))
+      where
+        go : (u : Bool) → k ≤ (if u then k else 64)
+        go true = omega arith
+        go false = omega arith
+
+    kept : x ≡ r
+    kept = j ∙ rw (le-ltb v r (omega (arith, above)))
+seen-more {w} {k} {r} {v} {x} b l m (unseen e) g f i j = go (eqb b 10) refl
+  where
+    n : 64 - k ≡ suc (64 - (k + 1))
+    n = omega arith
+
+    go : (u : Bool) → eqb b 10 ≡ u → Seen w m (k + 1) x
+    go true u =
+        let y : v ≡ k = i ∙ rw u in
+        let z : x ≡ k = j ∙ rw (y, lt-ltb k 64 g) in
+        rw z (seen {r = k} (omega arith) (stops (eqb-true b 10 u)))
+      where
+        stops : b ≡ 10 → k ≡ w
+        stops c = unfold takeWhile in (omega (arith, rw (f, n, ← line-lf b c) at e))
+    go false u =
+        let y : v ≡ 64 = i ∙ rw u in
+        let z : x ≡ 64 = j ∙ rw y in
+        rw z (unseen (goes (eqb-false b 10 u)))
+      where
+        goes : (b ≡ 10 → ⊥) → k + 1 + length (takeWhile inLine (take (64 - (k + 1)) m)) ≡ w
+        goes c = unfold takeWhile in (omega (arith, rw (f, n, ← line-other b c) at e))
+
+module _ {s : Bytes} {from r k : ℕ} (B : Block s from r k) where
+  pub block-ends : 64 ≤ k → r ≡ blockEnd s from
+  block-ends h = seen-ends (B .is) (omega (arith, B .most))
+
+  pub block-more : {x v : ℕ} → x ≡ lesser v r → v ≡ lfAt k (getD s (from + k) 0) → k < 64 → from + 64 ≤ length s → Block s from x (k + 1)
+  block-more e f h l =
+      let o : from + (k + 1) ≡ suc (from + k) = omega arith in
+      record { most = omega arith; is = rw o (seen-more (getD s (from + k) 0) (drop (from + k) s) (drop (suc (from + k)) s) (B .is) h (drop-cons s (from + k) 0 (omega arith)) f e) }
+
+-- a scan of the first n bytes, and of all
+while-short : (n : ℕ) (l : Bytes) → length (takeWhile inLine (take n l)) < n → n ≤ length l → length (takeWhile inLine l) ≡ length (takeWhile inLine (take n l))
+unfolding takeWhile
+while-short zero l h k = absurd (omega arith)
+while-short (suc n) [] h k = absurd (omega arith)
+while-short (suc n) (b ∷ l) h k = go (inLine b) h (while-short n l)
+  where
+    go : (u : Bool) → length (if u then b ∷ takeWhile inLine (take n l) else []) < suc n → (length (takeWhile inLine (take n l)) < n → n ≤ length l → length (takeWhile inLine l) ≡ length (takeWhile inLine (take n l)))
+        → length (if u then b ∷ takeWhile inLine l else []) ≡ length (if u then b ∷ takeWhile inLine (take n l) else [])
+    go true h ih = let i = ih (omega arith) (omega arith) in omega (arith, i)
+    go false h ih = refl
+
+while-long : (n : ℕ) (l : Bytes) → n ≤ length (takeWhile inLine (take n l)) → n ≤ length l → length (takeWhile inLine l) ≡ n + length (takeWhile inLine (drop n l))
+unfolding takeWhile
+while-long zero l h k = omega arith
+while-long (suc n) [] h k = absurd (omega arith)
+while-long (suc n) (b ∷ l) h k = go (inLine b) h (while-long n l)
+  where
+    go : (u : Bool) → suc n ≤ length (if u then b ∷ takeWhile inLine (take n l) else []) → (n ≤ length (takeWhile inLine (take n l)) → n ≤ length l → length (takeWhile inLine l) ≡ n + length (takeWhile inLine (drop n l)))
+        → length (if u then b ∷ takeWhile inLine l else []) ≡ suc n + length (takeWhile inLine (drop n l))
+    go true h ih = let i = ih (omega arith) (omega arith) in omega (arith, i)
+    go false h ih = absurd (omega arith)
+
+-- the line at from ends where the line at i ends
+pub record SameEnd (s : Bytes) (from i : ℕ) : Type 0 where
+  pub is : i + length (takeWhile inLine (drop i s)) ≡ from + length (takeWhile inLine (drop from s))
+
+pub end-starts : (s : Bytes) (from : ℕ) → SameEnd s from from
+end-starts s from = record { is = refl }
+
+module _ {s : Bytes} {from i : ℕ} (E : SameEnd s from i) where
+  pub end-out : length s ≤ i → i ≡ from + length (takeWhile inLine (drop from s))
+  end-out h = scan-end inLine s i h (E .is)
+
+  pub end-short : {r : ℕ} → r ≡ i + length (takeWhile inLine (drop i s)) → r ≡ from + length (takeWhile inLine (drop from s))
+  end-short e = e ∙ E .is
+
+  module _ {r m : ℕ} (e : r ≡ blockEnd s i) (f : m ≡ r) (h : 64 ≤ length s - i) where
+    inside : 64 ≤ length (drop i s)
+    inside = omega (arith, length-drop i s)
+
+    pub end-here : m < 64 → i + m ≡ from + length (takeWhile inLine (drop from s))
+    unfolding blockEnd
+    end-here k = omega (arith, e, f, E .is, while-short 64 (drop i s) (omega (arith, e, f)) inside)
+
+    pub end-more : 64 ≤ m → SameEnd s from (i + 64)
+    unfolding blockEnd
+    end-more k =
+        let w = while-long 64 (drop i s) (omega (arith, e, f)) inside in
+        record { is = omega (arith, E .is, rw (drop-drop 64 i s) at w) }
+
+-- ---- comments and empty lines
+
+pub skipped-none : (s : Bytes) (at : ℕ) → at ≤ length s → Skipped s at at
+skipped-none s at h = record { onward = omega arith; inside = omega arith; is = λ host. idle-none host s at (omega arith) }
+
+pub skipped-here : (s : Bytes) (at : ℕ) → at < length s → Skipped s at at
+skipped-here s at h = skipped-none s at (omega arith)
+
+pub skipped-on : {s : Bytes} {from at to : ℕ} → Skipped s from at → Skipped s at to → Skipped s from to
+skipped-on {s} P Q = record { onward = omega (arith, P .onward, Q .onward); inside = Q .inside; is = λ host. idle-on host s (P .is host) (Q .is host) }
+
+skipped-all : {s : Bytes} {from to : ℕ} → ((host : Bytes) → Idle host s from to) → Skipped s from to
+skipped-all f = record { onward = f [] .onward; inside = f [] .inside; is = f }
+
+pub skipped-empty : (s : Bytes) (at : ℕ) → at < length s → getD s at 0 ≡ 10 → Skipped s at (at + 1)
+skipped-empty s at h e = skipped-all (λ host. idle-empty host s at h e)
+
+pub skipped-comment : (s : Bytes) {at to : ℕ} → to ≡ at + 2 + length (takeWhile inLine (drop (at + 2) s)) → at < length s → 2 ≤ length s - at
+    → getD s at 0 ≡ 47 → getD s (at + 1) 0 ≡ 47 → Skipped s at (to + 1)
+skipped-comment s {at} g h l e f = skipped-all (λ host. idle-comment host s at h (omega arith) e f g)
+
+pub skipped-fits : (s : Bytes) {at to : ℕ} → to ≡ at + 2 + length (takeWhile inLine (drop (at + 2) s)) → 2 ≤ length s - at → at < length s → length s ≤ 1048576 → Fits w64 (to + 1)
+skipped-fits s {at} {to} g h l m = record { fits = omega (arith, scan-to inLine s (at + 2) to g (omega arith)) }
+
+pub skipped-less : {s : Bytes} {at to : ℕ} → Skipped s at to → (to ≡ at → ⊥) → at < length s → length s - to < length s - at
+skipped-less P n h = omega (arith, P .onward, n)
+
+-- ---- lines that find nothing
+
+module _ (host tail w : Bytes) {a : Bool} (e : a ≡ endsAtLabel w host) where
+  pub idle-match : a ≡ true → false ≡ not (endsAtLabel w host || endsAtLabel tail w)
+  idle-match f = rw (← e, f)
+
+  module _ {b : Bool} (g : b ≡ endsAtLabel tail w) where
+    pub idle-deep : b ≡ true → false ≡ not (endsAtLabel w host || endsAtLabel tail w)
+    idle-deep f = rw (← g, f, or-true)
+
+    pub idle-yes : a ≡ false → b ≡ false → true ≡ not (endsAtLabel w host || endsAtLabel tail w)
+    idle-yes f h = rw (← e, f, ← g, h)
+
+neither : (a b : Bool) → not (a || b) ≡ true → (a ≡ false) × (b ≡ false)
+neither false false e = (refl, refl)
+neither false true e = let z : _≡_ {A = ℕ} 0 1 = cc in absurd (omega arith)
+neither true b e = let z : _≡_ {A = ℕ} 0 1 = cc in absurd (omega arith)
+
+record ToHost (host table : Bytes) (from start to : ℕ) : Type 0 where
+  pub idle : Idle host table from start
+  pub line : HostLine table start to
+
+record ToOther (host table : Bytes) (from start : ℕ) : Type 0 where
+  pub idle : Idle host table from start
+  pub inside : start ≤ length table
+
+module _ {host table : Bytes} {at : ℕ} where
+  to-host : {q : Stop} {start to : ℕ} → Stopped host table at q → q ≡ Host start to → ToHost host table at start to
+  to-host {start = start} {to = to} (at-host {start = x} {to = y} I L) e =
+      let u : x ≡ start = cc in
+      let v : y ≡ to = cc in
+      rw (← u, ← v) (record { idle = I; line = L })
+  to-host (at-other I h) e = let z : _≡_ {A = ℕ} 0 1 = cc in absurd (omega arith)
+
+  to-other : {q : Stop} {start : ℕ} → Stopped host table at q → q ≡ Other start → ToOther host table at start
+  to-other (at-host I L) e = let z : _≡_ {A = ℕ} 0 1 = cc in absurd (omega arith)
+  to-other {start = start} (at-other {start = x} I h) e = let u : x ≡ start = cc in rw (← u) (record { idle = I; inside = h })
+
+module _ {host table : Bytes} {at : ℕ} {q : Stop} (S : Stopped host table at q) where
+  module _ {start to : ℕ} (e : q ≡ Host start to) where
+    pub host-onward : start ≤ to
+    host-onward = to-host S e .line .onward
+
+    pub host-inside : to ≤ length table
+    host-inside = omega (arith, to-host S e .line .inside)
+
+    pub host-fits : length table ≤ 1048576 → Fits w64 (to + 1)
+    host-fits h = record { fits = omega (arith, to-host S e .line .inside) }
+
+    pub host-less : length table - (to + 1) < length table - at
+    host-less = omega (arith, to-host S e .idle .onward, to-host S e .line .onward, to-host S e .line .inside)
+
+    pub host-stop : {d from : ℕ} → Shallow host table d from at → Shallow host table d from start
+    host-stop {d} I = shallow-on I (shallow-of d (to-host S e .idle))
+
+    pub host-passed : {d from last : ℕ} {r : Bool} → Shallow host table d from at → Stands (lastOf (suc d) (labels host)) host last
+        → r ≡ not (endsAtLabel (take (to - start) (drop start table)) host || endsAtLabel (take (length host - last) (drop last host)) (take (to - start) (drop start table)))
+        → r ≡ true → Shallow host table d from (to + 1)
+    host-passed {d} {from} {last} I T f g =
+        let L = to-host S e .line in
+        let w = take (to - start) (drop start table) in
+        let t = take (length host - last) (drop last host) in
+        let n = neither (endsAtLabel w host) (endsAtLabel t w) (sym f ∙ g) in
+        let F = finds-to host t w d (L .host) (ap labels (rest-whole host last ∙ T .is) ∙ last-names host (suc d) (omega arith)) (n .0) (n .1) in
+        shallow-on (host-stop I) (shallow-line host table d start to (omega (arith, L .onward, L .inside)) (L .ends) (rw (L .whole) F))
+
+  module _ {start : ℕ} (e : q ≡ Other start) where
+    pub other-inside : start ≤ length table
+    other-inside = to-other S e .inside
+
+    pub other-stop : {d from : ℕ} → Shallow host table d from at → Shallow host table d from start
+    other-stop {d} I = shallow-on I (shallow-of d (to-other S e .idle))
+
+    module _ {next : ℕ} (P : Skipped table start next) where
+      pub other-passed : {d from : ℕ} → Shallow host table d from at → Shallow host table d from next
+      other-passed {d} I = shallow-on (other-stop I) (shallow-of d (P .is host))
+
+      pub other-less : (next ≡ start → ⊥) → at < length table → length table - next < length table - at
+      other-less n h = omega (arith, to-other S e .idle .onward, P .onward, n)
+
+pub passes-stands : {kinds host table : Bytes} {d start from : ℕ} → Passes kinds host table d start from → Stands (lastOf (suc d) (labels host)) host start
+passes-stands P = P .stands
+
+pub passes-start : {kinds host table : Bytes} {d start from : ℕ} → Passes kinds host table d start from → start ≤ length host
+passes-start P = P .stands .inside
+
+pub shallow-starts : {kinds host table : Bytes} {d start from : ℕ} → Passes kinds host table d start from → Shallow host table d from from
+shallow-starts {host = host} {table = table} {d = d} {from = from} P = shallow-of d (idle-none host table from (P .inside))
+
+-- ---- the pass over the table
+
+shallow-deeps : {host table : Bytes} {e m d at to : ℕ} → Deeps host table e m d at → Shallow host table d at to → Deeps host table e m d to
+shallow-deeps D I = record { pass = record { is = rw (← I .best) (D .pass .is) }; depth = sym (I .depth) ∙ D .depth }
+
+pub passes-first : {kinds host table : Bytes} {last : ℕ} → KindsOf host kinds → Stands (lastOf 1 (labels host)) host last → length table ≤ 1048576 → Passes kinds host table 0 last 0
+passes-first K S h = record { kinds-are = K; stands = S; inside = omega arith; short = h }
+
+-- the place for the larger depth
+pub deeper-more : (host : Bytes) (depth d : ℕ) {r : ℕ} → depth < d → Stands (lastOf (suc d) (labels host)) host r → Stands (lastOf (suc (max depth d)) (labels host)) host r
+deeper-more host depth d h S = let z : max depth d ≡ d = omega arith in rw z S
+
+pub deeper-same : (host : Bytes) (depth d : ℕ) {r : ℕ} → d ≤ depth → Stands (lastOf (suc depth) (labels host)) host r → Stands (lastOf (suc (max depth d)) (labels host)) host r
+deeper-same host depth d h S = let z : max depth d ≡ depth = omega arith in rw z S
+
+pub record Round (classes kinds host tail table : Bytes) (e m d start at : ℕ) : Type 0 where
+  pub short : length table ≤ 1048576
+  pub classes-are : Classifies classes
+  pub tail-of : Tail host tail
+  pub lent : KindsOf host kinds
+  pub stands : Stands (lastOf (suc d) (labels host)) host start
+  pub deeps : Deeps host table e m d at
+
+pub round-starts : {classes kinds host tail table : Bytes} {last at : ℕ} → Shallow host table 0 0 at → Classifies classes → Tail host tail → Passes kinds host table 0 last 0
+    → Round classes kinds host tail table 0 0 0 last at
+round-starts {host = host} {table = table} I C T P = record {
+  short = P .short;
+  classes-are = C;
+  tail-of = T;
+  lent = P .kinds-are;
+  stands = P .stands;
+  deeps = shallow-deeps (deeps-starts host table (P .short)) I;
+}
+
+-- one line
+pub line-wrong : (host w : Bytes) {q : Best} → q ≡ bestOf (labels host) (readLine w) → q ≡ Bad → Wrong ≡ depthsOf (labels host) (readLine w)
+line-wrong host w e f = wrong-best (labels host) (readLine w) (sym f ∙ e)
+
+pub line-found : (host w : Bytes) {q : Best} {e m d : ℕ} → q ≡ bestOf (labels host) (readLine w) → q ≡ Sizes e m → d ≡ lineDepth (labels host) (readLine w) → Found e m d ≡ depthsOf (labels host) (readLine w)
+line-found host w {e = e} {m = m} {d = d} t f g = go (readLine w) (sym f ∙ t) g
+  where
+    go : (o : Option (List Rule)) → Sizes e m ≡ bestOf (labels host) o → d ≡ lineDepth (labels host) o → Found e m d ≡ depthsOf (labels host) o
+    go none t g = unfold bestOf in (let z : _≡_ {A = ℕ} 0 1 = cc in absurd (omega arith))
+    go (some rs) t g = unfold bestOf sizes depthsOf lineDepth in (
+        let x : maxLabels (filterBy (λ r. r .exception) (filterBy (matches (labels host)) rs)) ≡ e = cc in
+        let y : maxLabels (filterBy (matches (labels host)) rs) ≡ m = cc in
+        rw (x, y, g)
+        )
+
+found-depth : (hl : List Bytes) (o : Option (List Rule)) (e m d : ℕ) → Found e m d ≡ depthsOf hl o → d ≡ lineDepth hl o
+unfolding depthsOf lineDepth
+found-depth hl none e m d f = let z : _≡_ {A = ℕ} 0 1 = cc in absurd (omega arith)
+found-depth hl (some rs) e m d f = let x : d ≡ deepest hl rs = cc in x
+
+wrong-bad : (hl : List Bytes) (o : Option (List Rule)) → Wrong ≡ depthsOf hl o → bestOf hl o ≡ Bad
+unfolding depthsOf bestOf
+wrong-bad hl none f = refl
+wrong-bad hl (some rs) f = let z : _≡_ {A = ℕ} 0 1 = cc in absurd (omega arith)
+
+pub part-start : (table : Bytes) {at to : ℕ} → to ≡ at + length (takeWhile inContent (drop at table)) → at ≤ to
+part-start table {at} {to} g = scan-from inContent table at to g
+
+pub part-end : (table : Bytes) {at to : ℕ} → to ≡ at + length (takeWhile inContent (drop at table)) → at < length table → to ≤ length table
+part-end table {at} {to} g l = scan-to inContent table at to g (omega arith)
+
+module _ {classes kinds host tail table : Bytes} {a b c start at : ℕ} (R : Round classes kinds host tail table a b c start at) where
+  pub round-ends : length table ≤ at → Found a b c ≡ depthsOf (labels host) (readTable table)
+  round-ends l = deeps-ends (R .deeps) (R .short) l
+
+  module _ {to : ℕ} (g : to ≡ at + length (takeWhile inContent (drop at table))) where
+    module _ {k : ℕ} (i : k ≡ to + length (takeWhile inLine (drop to table))) (l : at < length table) where
+      pub round-fits : Fits w64 (k + 1)
+      round-fits = pass-fits table i g l (R .short)
+
+      pub round-lends : (d : ℕ) {z r : ℕ} → z ≡ max c d → Stands (lastOf (suc (max c d)) (labels host)) host r → Passes kinds host table z r (k + 1)
+      round-lends d w S =
+          let a : to ≤ length table = scan-to inContent table at to g (omega arith) in
+          let b : k ≤ length table = scan-to inLine table to k i a in
+          record { kinds-are = R .lent; stands = rw w S; inside = omega arith; short = R .short }
+
+      pub round-less : {d from : ℕ} → Shallow host table d (k + 1) from → length table - from < length table - at
+      round-less I = omega (arith, i, g, l, I .onward)
+
+    module _ {q : Depths} (t : q ≡ depthsOf (labels host) (readLine (take (to - at) (drop at table)))) where
+      pub round-wrong : q ≡ Wrong → Wrong ≡ depthsOf (labels host) (readTable table)
+      round-wrong e = deeps-bad (R .deeps) g {q = bestOf (labels host) (readLine (take (to - at) (drop at table)))} refl (wrong-bad (labels host) (readLine (take (to - at) (drop at table))) (sym e ∙ t))
+
+      pub round-more : {from k e m d x y z r : ℕ} → q ≡ Found e m d → Shallow host table z (k + 1) from → k ≡ to + length (takeWhile inLine (drop to table))
+          → x ≡ max a e → y ≡ max b m → z ≡ max c d → Stands (lastOf (suc (max c d)) (labels host)) host r → Round classes kinds host tail table x y z r from
+      round-more {e = e} {m = m} {d = d} f I i u v w S =
+          let o = readLine (take (to - at) (drop at table)) in
+          let D = deeps-more (R .deeps) g {q = bestOf (labels host) o} refl (sym (to-best table host e m d o (sym f ∙ t))) i u v w (found-depth (labels host) o e m d (sym f ∙ t)) in
+          record { short = R .short; classes-are = R .classes-are; tail-of = R .tail-of; lent = R .lent; stands = rw w S; deeps = shallow-deeps D I }
+
+pub ruleset block-laws = (block-starts, block-ends, block-more, needs)
+
+pub ruleset end-laws = (end-starts, end-out, end-short, end-here, end-more, needs)
+
+pub ruleset skip-laws = (
+  scan-end,
+  scan-stop,
+  scan-more,
+  line-lf,
+  line-other,
+  lf-here,
+  lf-none,
+  lesser-first,
+  lesser-second,
+  skipped-none,
+  skipped-here,
+  skipped-on,
+  skipped-empty,
+  skipped-comment,
+  skipped-fits,
+  skipped-less,
+  idle-match,
+  idle-deep,
+  idle-yes,
+  host-onward,
+  host-inside,
+  host-fits,
+  host-less,
+  host-stop,
+  host-passed,
+  other-inside,
+  other-stop,
+  other-passed,
+  other-less,
+  passes-stands,
+  passes-start,
+  shallow-starts,
+  deeper-more,
+  deeper-same,
+  tail-more,
+  tail-whole,
+  needs,
+)
