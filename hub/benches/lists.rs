@@ -10,8 +10,8 @@ mod published;
 mod reference;
 mod timing;
 
-use facets_hub::{clean, decide, private_label, tally, Answer, Inputs};
-use inputs::{Body, Table, APPID, VERSION};
+use facets_hub::{clean, decide, private_label, tally, Answer, Inputs, Refusal};
+use inputs::{Body, Table, VERSION};
 use publicsuffix::List;
 use reference::{label_length, Reference};
 use std::{env, fmt::Debug, hint::black_box};
@@ -19,13 +19,13 @@ use timing::{timed, HOW};
 
 const NO_LIST: &str = "-";
 
-/// Decisions by their callers.
+/// Decisions by their callers; a web caller's host goes on with the owner.
 const NATIVE_FIRST: (&str, &str) = ("decide, native, first entry", "ios:bundle-id:com.acme.first");
 const NATIVE_LAST: (&str, &str) = ("decide, native, last entry", "ios:bundle-id:com.acme.last");
 const NATIVE_NONE: (&str, &str) = ("decide, native, no entry", "ios:bundle-id:com.acme.none");
-const WEB_FIRST: (&str, &str) = ("decide, web, second entry", "https://first.example.com");
-const WEB_LAST: (&str, &str) = ("decide, web, last entry but one", "https://last.example.com");
-const WEB_NONE: (&str, &str) = ("decide, web, no entry", "https://none.example.com");
+const WEB_FIRST: (&str, &str) = ("decide, web, second entry", "https://first.");
+const WEB_LAST: (&str, &str) = ("decide, web, last entry but one", "https://last.");
+const WEB_NONE: (&str, &str) = ("decide, web, no entry", "https://none.");
 
 /// A time, three digits of it at least.
 fn microseconds(nanoseconds: f64) -> String {
@@ -59,7 +59,7 @@ impl Rows<'_> {
     }
 
     fn label(&mut self, host: &str) {
-        let (table, list) = (self.table.text.as_bytes(), &self.table.list);
+        let Table { text: table, list, .. } = self.table;
         let call = if host.len() < 24 {
             format!("label, {host}")
         } else {
@@ -67,62 +67,82 @@ impl Rows<'_> {
         };
         self.row(
             &call,
-            || private_label(black_box(host.as_bytes()), black_box(table)).len(),
+            || private_label(black_box(host.as_bytes()), black_box(table.as_bytes())).len(),
             || label_length(list, black_box(host)),
         );
     }
 
+    fn labels(&mut self) {
+        let longest = format!("{}{}.com", "a.".repeat(93), "l".repeat(63));
+        for host in ["www.example.com", "www.example.co.uk", "x00000.example.com", &longest] {
+            self.label(host);
+        }
+        let (_, reading) = timed(|| self.table.other.parse::<List>().is_ok());
+        self.print("reading the table before", "", &microseconds(reading), "");
+    }
+
     fn decision(&mut self, body: &str, (call, caller): (&str, &str)) {
-        let (table, list) = (self.table.text.as_bytes(), &self.table.list);
+        let Table { owner, appid, text: table, list, .. } = self.table;
+        let owner = if caller.starts_with("https://") { owner } else { "" };
+        let caller = format!("{caller}{owner}");
         let (major, minor) = VERSION;
         let inputs = Inputs {
             caller: caller.as_bytes(),
-            appid: APPID.as_bytes(),
+            appid: appid.as_bytes(),
             major,
             minor,
             record: &[2, 0, 200, 1],
             text: b"",
             body: body.as_bytes(),
-            table,
+            table: table.as_bytes(),
         };
         let ours = || match decide(black_box(&inputs)) {
             Answer::Rule4 { place } => Some(place as usize),
-            _ => None,
+            Answer::Refused(Refusal::NotListed) => None,
+            other => panic!("{other:?}"),
         };
-        let other = || reference(body, list).place(black_box(caller));
+        let other = || reference(appid, body, list).place(black_box(&caller));
         self.row(call, ours, other);
     }
 
     /// Cleaning into an output with room for any list, and into one that is just as long as the list.
     fn cleaning(&mut self, body: &str) {
-        let (table, list) = (self.table.text.as_bytes(), &self.table.list);
-        let (appid, (major, minor)) = (APPID.as_bytes(), VERSION);
-        let expected = reference(body, list).clean(VERSION);
+        let Table { appid, text: table, list, .. } = self.table;
+        let (major, minor) = VERSION;
+        let expected = reference(appid, body, list).clean(VERSION);
         for (call, room) in [("clean", 65_536), ("clean, output just long enough", expected.len())] {
             let mut out = vec![0; room];
             let cleaned = || {
-                let length = clean(appid, major, minor, black_box(body.as_bytes()), table, &mut out);
+                let length = clean(
+                    appid.as_bytes(),
+                    major,
+                    minor,
+                    black_box(body.as_bytes()),
+                    table.as_bytes(),
+                    &mut out,
+                );
                 length.expect("a list")
             };
-            self.row(call, cleaned, || reference(body, list).clean(VERSION).len());
+            self.row(call, cleaned, || reference(appid, body, list).clean(VERSION).len());
             // The last of the calls left its list in the output.
             assert!(out.starts_with(expected.as_bytes()), "{}, {}", self.table.name, self.list);
         }
     }
 
     fn tally(&mut self, body: &str) {
-        let (table, list) = (self.table.text.as_bytes(), &self.table.list);
-        let (appid, (major, minor)) = (APPID.as_bytes(), VERSION);
+        let Table { appid, text: table, list, .. } = self.table;
+        let (major, minor) = VERSION;
         let ours = || {
-            let counts = tally(appid, major, minor, black_box(body.as_bytes()), table).expect("a list");
+            let counts = tally(appid.as_bytes(), major, minor, black_box(body.as_bytes()), table.as_bytes())
+                .expect("a list");
             [counts.kept, counts.too_long, counts.other_scheme, counts.not_facet, counts.other_label]
         };
-        self.row("tally", ours, || reference(body, list).tally());
+        self.row("tally", ours, || reference(appid, body, list).tally());
     }
 }
 
-fn reference<'a>(body: &str, list: &'a List) -> Reference<'a> {
-    Reference::new(black_box(APPID), VERSION, black_box(body.as_bytes()), list).expect("a list")
+fn reference<'a>(appid: &str, body: &str, list: &'a List) -> Reference<'a> {
+    Reference::new(black_box(appid), VERSION, black_box(body.as_bytes()), list).expect("a list")
 }
 
 /// The decisions that are timed with a table: all with the published one, few with the others.
@@ -131,50 +151,59 @@ fn callers(table: &Table, list: &str) -> Vec<(&'static str, &'static str)> {
         ("published", "small" | "middle" | "full") => {
             vec![NATIVE_FIRST, NATIVE_LAST, NATIVE_NONE, WEB_FIRST, WEB_LAST, WEB_NONE]
         }
-        ("deeper", _) => vec![NATIVE_FIRST, NATIVE_NONE, WEB_NONE],
+        // Seconds each.
+        ("deeper", "full") => vec![NATIVE_FIRST, WEB_NONE],
+        ("deeper" | "amazonaws", _) => vec![NATIVE_FIRST, NATIVE_NONE, WEB_NONE],
         _ => vec![NATIVE_NONE, WEB_NONE],
     }
 }
 
-fn main() {
-    // Cargo itself passes `--bench`.
-    let arguments: Vec<String> = env::args().skip(1).filter(|argument| !argument.starts_with('-')).collect();
-    let (tables, common, worst) = (inputs::tables(), inputs::common(), inputs::worst());
-    let names = tables.iter().map(|table| table.name);
-    let names = names.chain(common.iter().chain(&worst).map(|body| body.name)).chain(["label"]);
-    let wanted = |of: &[&str], name: &str| {
-        let some: Vec<&String> =
-            arguments.iter().filter(|argument| of.contains(&argument.as_str())).collect();
-        some.is_empty() || some.iter().any(|argument| *argument == name)
-    };
-    let all: Vec<&str> = names.collect();
-    let (tables_named, lists_named) = all.split_at(tables.len());
-    for argument in &arguments {
-        assert!(all.contains(&argument.as_str()), "{argument} is none of {all:?}");
+/// What the command line names, or all where it names none.
+struct Wanted(Vec<String>);
+
+impl Wanted {
+    fn new(tables: &[Table], lists: &[&Body]) -> Wanted {
+        // Cargo itself passes `--bench`.
+        let named: Vec<String> = env::args().skip(1).filter(|argument| !argument.starts_with('-')).collect();
+        let tables = tables.iter().map(|table| table.name);
+        let names: Vec<&str> = tables.chain(lists.iter().map(|body| body.name)).chain(["label"]).collect();
+        let unknown = named.iter().find(|named| !names.contains(&named.as_str()));
+        assert_eq!(unknown, None, "it is none of {names:?}");
+        Wanted(named)
     }
+
+    /// Whether the name is wanted of these names.
+    fn has(&self, of: &[&str], name: &str) -> bool {
+        let of = |named: &&String| of.contains(&named.as_str());
+        self.0.iter().any(|named| named == name) || !self.0.iter().any(|named| of(&named))
+    }
+}
+
+fn main() {
+    let (tables, common, worst) = (inputs::tables(), inputs::common("example.com"), inputs::worst());
+    let lists: Vec<&Body> = common.iter().chain(&worst).collect();
+    let wanted = Wanted::new(&tables, &lists);
+    let table_names: Vec<&str> = tables.iter().map(|table| table.name).collect();
+    let list_names: Vec<&str> = lists.iter().map(|body| body.name).chain(["label"]).collect();
 
     for table in &tables {
         println!("table {}: {}; {} bytes", table.name, table.what, table.text.len());
     }
-    for Body { name, what, entries, text } in common.iter().chain(&worst) {
+    for Body { name, what, entries, text } in lists {
         println!("list {name}: {what}; {entries} entries, {} bytes", text.len());
     }
     println!("\nMicroseconds a call: {HOW}.\n");
     println!("| table     | list     | call                            |   facets |    other |    ratio |");
     println!("|-----------|----------|---------------------------------|---------:|---------:|---------:|");
     let mut most = Vec::new();
-    for table in tables.iter().filter(|table| wanted(tables_named, table.name)) {
+    for table in tables.iter().filter(|table| wanted.has(&table_names, table.name)) {
         let mut rows = Rows { table, list: NO_LIST, most: (0.0, String::new()) };
-        if wanted(lists_named, "label") {
-            let longest = format!("{}{}.com", "a.".repeat(93), "l".repeat(63));
-            for host in ["www.example.com", "www.example.co.uk", "x00000.example.com", &longest] {
-                rows.label(host);
-            }
-            let (_, reading) = timed(|| table.other.parse::<List>().is_ok());
-            rows.print("reading the table before", "", &microseconds(reading), "");
+        if wanted.has(&list_names, "label") && table.name != "amazonaws" {
+            rows.labels();
         }
+        let common = inputs::common(table.owner);
         let worst: &[Body] = if table.name == "published" { &worst } else { &[] };
-        for body in common.iter().chain(worst).filter(|body| wanted(lists_named, body.name)) {
+        for body in common.iter().chain(worst).filter(|body| wanted.has(&list_names, body.name)) {
             rows.list = body.name;
             for caller in callers(table, body.name) {
                 rows.decision(&body.text, caller);

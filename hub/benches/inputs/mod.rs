@@ -1,9 +1,11 @@
-//! The tables and lists of the benchmark, all for the AppID `https://www.example.com/appID`.
+//! The tables and lists of the benchmark, each for the AppID `https://www.OWNER/appID` of the table's owner.
 
 use crate::published;
 use publicsuffix::List;
 
-pub const APPID: &str = "https://www.example.com/appID";
+/// The owner with most tables.
+const OWNER: &str = "example.com";
+
 pub const VERSION: (u16, u16) = (1, 0);
 const BODY_MAX: usize = 65_536;
 const TABLE_MAX: usize = 1_048_576;
@@ -12,6 +14,9 @@ const TABLE_MAX: usize = 1_048_576;
 pub struct Table {
     pub name: &'static str,
     pub what: &'static str,
+    /// The AppID's private label.
+    pub owner: &'static str,
+    pub appid: String,
     pub text: String,
     pub list: List,
     /// The text that the other program read.
@@ -22,7 +27,12 @@ impl Table {
     fn new(name: &'static str, what: &'static str, text: String, other: &str) -> Table {
         assert!(text.len() <= TABLE_MAX);
         let list = other.parse().expect("a list");
-        Table { name, what, text, list, other: other.to_owned() }
+        Table { name, what, owner: OWNER, appid: appid(OWNER), text, list, other: other.to_owned() }
+    }
+
+    /// The same for another owner.
+    fn of(self, owner: &'static str) -> Table {
+        Table { owner, appid: appid(owner), ..self }
     }
 
     /// `com`, then lines to the last byte a table may have. `publicsuffix` wants a heading before the rules.
@@ -40,11 +50,17 @@ impl Table {
     }
 }
 
+fn appid(owner: &str) -> String {
+    format!("https://www.{owner}/appID")
+}
+
 pub fn tables() -> Vec<Table> {
     let (list, whole) = (published::list(), published::table());
     let rules = published::rules(&whole).join("\n");
     vec![
-        Table::new("published", "the published table, names in `xn--` form", whole, &list),
+        Table::new("published", "the published table, names in `xn--` form", whole.clone(), &list),
+        Table::new("amazonaws", "the published table, the AppID on www.amazonaws.com", whole, &list)
+            .of("amazonaws.com"),
         Table::new("rules", "the same without comments and blank lines", rules, &list),
         Table::full("short", "a mebibyte of the shortest rules, `m`", |_| "m\n".to_owned()),
         Table::full("near", "a mebibyte of rules beside the AppID's label, `m.com`", |_| {
@@ -87,14 +103,14 @@ fn full(name: &'static str, what: &'static str, ids: impl Fn(usize) -> Vec<Strin
 }
 
 /// A native identity first and last, web origins between them, most of them kept.
-fn mixed(count: usize) -> Vec<String> {
-    let mut ids = vec!["ios:bundle-id:com.acme.first".to_owned(), "https://first.example.com".to_owned()];
+fn mixed(owner: &str, count: usize) -> Vec<String> {
+    let mut ids = vec!["ios:bundle-id:com.acme.first".to_owned(), format!("https://first.{owner}")];
     ids.extend((3..count - 1).map(|n| match n % 10 {
-        7 => format!("http://w{n:04}.example.com"),
+        7 => format!("http://w{n:04}.{owner}"),
         8 => format!("https://w{n:04}.example.org"),
-        _ => format!("https://w{n:04}.example.com"),
+        _ => format!("https://w{n:04}.{owner}"),
     }));
-    ids.extend(["https://last.example.com".to_owned(), "ios:bundle-id:com.acme.last".to_owned()]);
+    ids.extend([format!("https://last.{owner}"), "ios:bundle-id:com.acme.last".to_owned()]);
     assert_eq!(ids.len(), count);
     ids
 }
@@ -104,15 +120,15 @@ fn escaped(text: &str) -> String {
 }
 
 /// Lists as they are in use, of three lengths.
-pub fn common() -> Vec<Body> {
+pub fn common(owner: &str) -> Vec<Body> {
     vec![
-        body("small", "5 entries", &mixed(5)),
-        body("middle", "200 entries", &mixed(200)),
-        full("full", "as many such entries as 65,536 bytes hold", mixed),
+        body("small", "5 entries", &mixed(owner, 5)),
+        body("middle", "200 entries", &mixed(owner, 200)),
+        full("full", "as many such entries as 65,536 bytes hold", |count| mixed(owner, count)),
     ]
 }
 
-/// Lists that take longest to read, each in another way.
+/// Lists that take longest to read, each in another way, for the first owner.
 pub fn worst() -> Vec<Body> {
     let same = |entry: &str| {
         let entry = entry.to_owned();
@@ -125,7 +141,7 @@ pub fn worst() -> Vec<Body> {
     };
     vec![
         full("escaped", "web origins, every byte written as `\\u00xx`", |count| {
-            (0..count).map(|n| escaped(&format!("https://w{n:04}.example.com"))).collect()
+            (0..count).map(|n| escaped(&format!("https://w{n:04}.{OWNER}"))).collect()
         }),
         full("native", "the shortest native identities", same("ios:bundle-id:a")),
         full("empty", "empty strings", same("")),
