@@ -1,6 +1,7 @@
 -- An entry without escapes: the part of the body between its quotation marks.
 use mathlib.Core.Path.{_≡_, sym, ap, _∙_}
 use mathlib.Core.Bool.{Bool, true, false}
+use mathlib.Core.Option.{none}
 use Prim.Native.Nat.{ℕ, _+_, _-_, _≤_, _<_, _^_}
 use native.Mathlib.Omega.{arith}
 use mir.Syntax.{w64}
@@ -64,6 +65,10 @@ module _ {s : Bytes} {at : ℕ} {r : Next} (P : PlainIs s at r) {q : ℕ} (h : r
     pub plain-cause : {table label : Bytes} {deeper : Bool} {v : Verdict} (appid : Bytes) → Owns appid table label deeper
         → Judges table label deeper (take (q - (at + 1)) (drop (at + 1) s)) v → causeOf v ≡ cause appid table e
     plain-cause {table} appid O J = J .is appid O ∙ ap (cause appid table) (sym plain-is)
+
+    pub plain-kept : {table label : Bytes} {deeper : Bool} {v : Verdict} (appid : Bytes) → Owns appid table label deeper
+        → Judges table label deeper (take (q - (at + 1)) (drop (at + 1) s)) v → v ≡ Kept → none ≡ cause appid table e
+    plain-kept appid O J h = unfold causeOf in (let x = plain-cause appid O J in rw h at x)
 
 -- ---- one entry
 
