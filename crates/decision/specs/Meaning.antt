@@ -11,7 +11,7 @@ use Rattle.origin.specs.Matching.{facetMatches}
 use Rattle.origin.specs.Parts.{part}
 use Rattle.json_text.specs.Reader.{got}
 use Rattle.json_text.specs.Lexical.{readString}
-use Rattle.json_text.specs.Places.{readAt}
+use Rattle.json_text.specs.Places.{readAt, fit}
 use Rattle.refusals.specs.declared.Refusal.{Refusal}
 use Rattle.refusals.specs.declared.Refusal.the-variants.{BadTable}
 use Rattle.trusted_list.specs.Slots.{idsAt}
@@ -60,6 +60,10 @@ entriesAt body ids = Option·getD (idsAt body ids) []
 unfoldable pub matchOf : Match → Option ℕ
 matchOf Nowhere = none
 matchOf (MatchAt n) = some n
+
+-- an entry of which at most 512 bytes are held matches the caller
+pub record MatchesHeld (caller : Bytes) (held : Option Bytes) (r : Bool) : Type 0 where
+  pub is : (entry : Bytes) → length entry ≤ 512 → held ≡ fit entry → r ≡ facetMatches caller entry
 
 -- the AppID's label stands in it between two places
 pub record Owned (appid table : Bytes) (start end : ℕ) (deeper : Bool) : Type 0 where
