@@ -36,21 +36,7 @@ use Rattle.decision.specs.declared.Match.the-variants.{At as MatchAt, No
 use Rattle.decision.specs.declared.Step.{Step}
 use Rattle.decision.specs.declared.Step.the-variants.{Matched, Goes, Wrong}
 
--- ---- an entry that is held
-
-pub fit-is : (e : Bytes) → length e ≤ 512 → fit e ≡ some e
-unfolding fit
-fit-is e l = rw (le-leb (length e) 512 l)
-
 -- ---- one entry
-
-pub kept-short : (appid table e : Bytes) → none ≡ cause appid table e → length e ≤ 512
-unfolding cause
-kept-short appid table e h = go (ltb 512 (length e)) refl _ h
-  where
-    go : (u : Bool) → ltb 512 (length e) ≡ u → (o : Option Cause) → none ≡ (if u then some tooLong else o) → length e ≤ 512
-    go true f o h = let z : _≡_ {A = ℕ} 0 1 = cc in absurd (omega arith)
-    go false f o h = ltb-false 512 (length e) f
 
 too-long : (appid table e : Bytes) → causeOf TooLong ≡ cause appid table e → isNone (cause appid table e) ≡ false
 unfolding causeOf
@@ -69,10 +55,6 @@ module _ (caller table label : Bytes) (deeper : Bool) (s : Bytes) (at : ℕ) {t 
 
     pub held-is : (e : Bytes) (k : ℕ) → readAt readString s at ≡ got e k → content (t .decoded) ≡ fit e
     held-is e k f = unfold contentOf in (H .held-is ∙ rw f)
-
-    module _ {v : Verdict} (J : JudgesHeld table label deeper (content (t .decoded)) v) where
-      pub kept-is : v ≡ Kept → (appid e : Bytes) (k : ℕ) → Owns appid table label deeper → readAt readString s at ≡ got e k → none ≡ cause appid table e
-      kept-is h appid e k O f = unfold causeOf in (let x : causeOf v ≡ cause appid table e = J .is appid e O (held-is e k f) in rw h at x)
 
     module _ (h : t .decoded .long ≡ false) (l : t .decoded .len ≤ 512) where
       pub held-part : length (t .decoded .bytes) ≡ 512 → t .decoded .len ≤ length (t .decoded .bytes)
