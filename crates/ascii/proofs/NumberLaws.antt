@@ -1,23 +1,20 @@
 -- Decimal numbers read in a loop and written digit by digit. Assumes nothing.
 use mathlib.Core.Path.{_≡_, refl, sym, ap, _∙_}
-use mathlib.Core.List.{List, [], _∷_, _++_}
-use mathlib.Core.Bool.{Bool, true, false, _&&_, not, and-false, and-eq-true-iff}
-use mathlib.Core.Option.{Option, none, some}
-use Prim.Native.Nat.{ℕ, zero, suc, _+_, _-_, _*_, _/_, _%_, _≤_, _<_}
+use mathlib.Core.List.{[], _∷_, _++_}
+use mathlib.Core.Bool.{Bool, true, false, _&&_, and-false, and-eq-true-iff}
+use mathlib.Core.Option.{Option, none}
+use Prim.Native.Nat.{ℕ, _+_, _-_, _*_, _/_, _%_, _≤_, _<_}
 use native.Mathlib.Numerals.{add-one}
 use native.Mathlib.Omega.{arith}
-use mir.Syntax.{w32, w8}
-use mir.Val.{Fits}
-use lib.ListN.{length, take, drop, getD, drop-of-length-le}
+use lib.ListN.{length, drop, getD, drop-of-length-le}
 use lib.Seq.{drop-cons}
-use lib.Dec.{leb, ltb}
+use lib.Dec.{leb}
 use borrow.Author.Tests.{lt-leb, le-leb, leb-true, lt-ltb, le-ltb}
 use borrow.Author.Needs.{needs}
 use Rattle.ascii.specs.Ascii.{Bytes, if_then_else_, _when_, all, isDigit, valueFrom, value, number16, decimalUpTo, decimal}
 use Rattle.ascii.specs.Numbers.{numberOf, DigitIs, Writes}
 use Rattle.ascii.specs.declared.decimals.Number.{Number}
 use Rattle.ascii.specs.declared.decimals.Number.the-variants.{Value, Malformed}
-use Rattle.ascii.specs.declared.decimals.Decimal.{Decimal}
 
 -- ---- a digit
 

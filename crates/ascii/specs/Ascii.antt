@@ -4,7 +4,7 @@ use mathlib.Core.Bool.{Bool, true, false, _&&_, _||_, not}
 use mathlib.Core.Option.{Option, none, some}
 use Prim.Native.Nat.{ℕ, zero, suc, _+_, _-_, _*_, _/_, _%_}
 use Prim.Native.String.{String, [] as ε, _∷_ as _◃_}
-use Prim.Native.Char.{Char, code}
+use Prim.Native.Char.{code}
 use lib.ListN.{length, drop}
 use lib.Dec.{eqb, leb, ltb}
 

@@ -1,16 +1,14 @@
 -- One law for each way to a verdict.
 use mathlib.Core.Path.{_≡_, refl, sym, ap, _∙_}
-use mathlib.Core.Bool.{Bool, true, false, _&&_, _||_, not, or-true}
-use mathlib.Core.List.{List, [], _∷_}
-use mathlib.Core.Option.{Option, none, some}
-use Prim.Native.Nat.{ℕ, zero, suc, _+_, _-_, _≤_, _<_}
+use mathlib.Core.Bool.{Bool, true, false, _&&_, _||_}
+use mathlib.Core.List.{_∷_}
+use mathlib.Core.Option.{none, some}
+use Prim.Native.Nat.{ℕ, _+_, _-_, _≤_, _<_}
 use native.Mathlib.Omega.{arith}
-use lib.Dec.{leb, ltb}
+use lib.Dec.{leb}
 use lib.ListN.{length, take, drop}
 use borrow.Author.Tests.{lt-ltb, le-ltb, le-leb, leb-false}
-use Rattle.ascii.specs.Ascii.{Bytes, if_then_else_, isNone}
-use Rattle.suffix.specs.Host.{isHost}
-use Rattle.suffix.specs.Suffix.{privateLabel}
+use Rattle.ascii.specs.Ascii.{Bytes, if_then_else_}
 use Rattle.origin.specs.Origin.{Authority, beginsHttps, beginsNative, webOrigin, isNative, isFacet}
 use Rattle.origin.specs.Parts.{part, authorityIn, Reads}
 use Rattle.origin.specs.declared.Parts.{Parts}
@@ -20,7 +18,7 @@ use Rattle.origin.proofs.Readings.{found, is-none, found-low, found-high}
 use Rattle.origin.proofs.Origins.{origin-read, native-begins, native-not-https, no-https-no-web}
 use Rattle.json_text.specs.Places.{fit, content}
 use Rattle.json_text.specs.declared.Decoded.{Decoded}
-use Rattle.causes.specs.Causes.{tooLong, otherScheme, notFacet, otherLabel, appLabel, labelsAgree, isOtherLabel, cause}
+use Rattle.causes.specs.Causes.{isOtherLabel, cause}
 use Rattle.causes.specs.Owner.{Owns, Differs, Judges, JudgesHeld, causeOf}
 use Rattle.causes.specs.declared.Verdict.{Verdict}
 use Rattle.causes.specs.declared.Verdict.the-variants.{Kept, TooLong, OtherScheme, NotFacet, OtherLabel}

@@ -1,21 +1,21 @@
 -- The AppID's label, found once, settles cause 4 for every entry.
 use mathlib.Core.Path.{_≡_, refl, sym, ap, _∙_}
-use mathlib.Core.Bool.{Bool, true, false, not}
-use mathlib.Core.List.{List, [], _∷_}
+use mathlib.Core.Bool.{Bool, true, false}
+use mathlib.Core.List.{[], _∷_}
 use mathlib.Core.Option.{Option, none, some}
 use Prim.Native.Nat.{ℕ, zero, suc, _+_, _-_, _≤_, _<_, _^_}
 use native.Mathlib.Omega.{arith}
 use mir.Syntax.{w64}
 use mir.Val.{Fits}
 use lib.ListN.{length, take, drop, length-drop, length-take}
-use lib.Seq.{drop-drop, take-all}
-use Rattle.ascii.specs.Ascii.{Bytes, _>>=_, isNone, sameNoCase}
+use lib.Seq.{drop-drop}
+use Rattle.ascii.specs.Ascii.{Bytes, _>>=_}
 use Rattle.suffix.specs.Host.{isHost}
 use Rattle.suffix.specs.Place.{endsAtLabel}
-use Rattle.suffix.specs.Suffix.{readTable, privateLabel}
-use Rattle.suffix.specs.Pass.{orEmpty, LabelAt}
+use Rattle.suffix.specs.Suffix.{privateLabel}
+use Rattle.suffix.specs.Pass.{orEmpty}
 use Rattle.suffix.specs.Deeper.{isDeeper, isTheLabel}
-use Rattle.suffix.specs.Depth.{deeperThan, LabelFound, OwnerIs, bad-table as no-table, owner-is}
+use Rattle.suffix.specs.Depth.{deeperThan, OwnerIs, bad-table as no-table, owner-is}
 use Rattle.suffix.specs.declared.Owner.{Owner}
 use Rattle.suffix.specs.declared.Owner.the-variants.{BadTable as Unread, Label as LabelOf}
 use Rattle.suffix.proofs.Speed.{one-label}
@@ -28,7 +28,6 @@ use Rattle.origin.specs.declared.Reading.the-variants.{Found, Malformed}
 use Rattle.origin.proofs.Readings.{found, is-none, found-low, found-high}
 use Rattle.causes.specs.Causes.{appLabel, labelsAgree}
 use Rattle.causes.specs.Owner.{Owns, OwnedBy, bad-table, owned, Differs}
-use Rattle.causes.specs.declared.AppOwner.{AppOwner}
 use Rattle.causes.specs.declared.AppOwner.the-variants.{BadTable, Label}
 
 -- ---- the AppID's label

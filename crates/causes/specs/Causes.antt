@@ -1,8 +1,7 @@
 -- Why an entry is discarded, and which entries are kept (document 01, "The list").
-use mathlib.Core.List.{List, [], _∷_}
-use mathlib.Core.Bool.{Bool, true, false, _||_, not}
+use mathlib.Core.List.{List, _∷_}
+use mathlib.Core.Bool.{Bool, false, _||_, not}
 use mathlib.Core.Option.{Option, none, some}
-use Prim.Native.Nat.{ℕ}
 use lib.ListN.{length}
 use lib.Dec.{ltb}
 use Rattle.ascii.specs.Ascii.{Bytes, if_then_else_, _>>=_, isNone, filterBy, sameNoCase}

@@ -1,7 +1,7 @@
 -- The list around the ids: its length, its bytes, the whole call.
 use mathlib.Core.Path.{_≡_, refl, sym, ap, _∙_}
 use mathlib.Core.Bool.{Bool, true, false}
-use mathlib.Core.List.{List, [], _∷_, _++_}
+use mathlib.Core.List.{_∷_, _++_}
 use mathlib.Core.Option.{Option, none, some}
 use Prim.Native.Nat.{ℕ, _+_, _-_, _≤_, _<_}
 use native.Mathlib.Omega.{arith}
@@ -10,18 +10,18 @@ use mir.Val.{Fits}
 use lib.Dec.{leb, ltb}
 use lib.ListN.{length, take, drop, length-append}
 use lib.Seq.{length-take-le}
-use borrow.Author.Tests.{le-leb, lt-leb, leb-true, leb-false, lt-ltb, le-ltb}
+use borrow.Author.Tests.{le-leb, leb-true, leb-false, lt-ltb, le-ltb}
 use Rattle.ascii.specs.Ascii.{Bytes, if_then_else_, text, decimal}
 use Rattle.ascii.specs.Numbers.{Writes}
 use Rattle.ascii.specs.declared.decimals.Decimal.{Decimal}
-use Rattle.origin.specs.Parts.{writtenAt, behind, Wrote}
+use Rattle.origin.specs.Parts.{Wrote}
 use Rattle.origin.proofs.Writings.{wrote-is, wrote-place, wrote-length, wrote-then}
 use Rattle.refusals.specs.declared.Refusal.{Refusal}
 use Rattle.refusals.specs.declared.Refusal.the-variants.{Full}
-use Rattle.trusted_list.specs.TrustedList.{listRefusal, entries, Accepted}
+use Rattle.trusted_list.specs.TrustedList.{entries, Accepted}
 use Rattle.trusted_list.proofs.Acceptance.{accepted-selects}
 use Rattle.decision.specs.Meaning.{Owned, IdsThere, entriesAt}
-use Rattle.cleaning.specs.Clean.{render, cleanedList, cleanRefusal, Cleaned, notCleaned, cleaned, fitting, orClean, clean}
+use Rattle.cleaning.specs.Clean.{render, cleanedList, cleanRefusal, notCleaned, cleaned, fitting, orClean, clean}
 use Rattle.cleaning.specs.Meaning.{ListedAt, Prepares, names, idsText, listHead, Cleans, refuses, writes}
 use Rattle.cleaning.specs.declared.Output.{Output}
 use Rattle.cleaning.specs.declared.Output.the-variants.{Refused as NotWritten, Length}

@@ -2,7 +2,7 @@
 use mathlib.Core.Path.{_≡_, refl, sym, ap, _∙_}
 use mathlib.Core.Bool.{Bool, true, false, not}
 use mathlib.Core.List.{List, []}
-use mathlib.Core.Option.{Option, none, some, Option·getD}
+use mathlib.Core.Option.{Option, none, some}
 use Prim.Native.Nat.{ℕ}
 use native.Mathlib.Omega.{arith}
 use Rattle.ascii.specs.Ascii.{Bytes, _when_, _orElse_, isNone}
@@ -19,7 +19,7 @@ use Rattle.causes.specs.Owner.{OwnedBy, bad-table, owned}
 use Rattle.causes.specs.declared.AppOwner.{AppOwner}
 use Rattle.causes.specs.declared.AppOwner.the-variants.{BadTable as NoTable, Label}
 use Rattle.decision.specs.Decide.{isBadAppId}
-use Rattle.decision.specs.Meaning.{Owned, IdsThere, entriesAt}
+use Rattle.decision.specs.Meaning.{entriesAt}
 use Rattle.decision.proofs.ListLaws.{ids-owned}
 use Rattle.cleaning.specs.Clean.{cleanRefusal}
 use Rattle.cleaning.specs.Meaning.{ListedAt, Prepares, is-refused, is-listed}

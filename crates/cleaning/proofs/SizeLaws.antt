@@ -2,18 +2,16 @@
 use mathlib.Core.Path.{_≡_, refl, sym, ap, _∙_}
 use mathlib.Core.Bool.{Bool, true, false}
 use mathlib.Core.List.{List, [], _∷_, _++_, map}
-use mathlib.Core.Option.{Option, none, some}
-use Prim.Native.Nat.{ℕ, zero, suc, _+_, _-_, _*_, _≤_, _<_, _^_}
+use Prim.Native.Nat.{ℕ, _+_, _-_, _*_, _≤_, _<_, _^_}
 use native.Mathlib.Omega.{arith}
 use mir.Syntax.{w64}
 use mir.Val.{Fits}
-use lib.Dec.{eqb, leb, ltb}
-use lib.ListN.{length, take, drop, length-append, length-take}
-use borrow.Author.Tests.{eq-eqb, ne-eqb, lt-ltb, le-ltb}
+use lib.Dec.{eqb, ltb}
+use lib.ListN.{length, take, drop, length-append}
+use borrow.Author.Tests.{ne-eqb, lt-ltb}
 use Rattle.ascii.specs.Ascii.{Bytes, if_then_else_, isNone, filterBy, text, prefixed, joinWith}
 use Rattle.origin.specs.Origin.{normalForm}
 use Rattle.origin.proofs.NormalForms.{normal-short}
-use Rattle.json_text.specs.Reader.{got}
 use Rattle.json_text.specs.Lexical.{readString}
 use Rattle.json_text.specs.Places.{readAt, placeOf, contentOf, Holds}
 use Rattle.json_text.specs.PlainString.{PlainIs}
@@ -22,12 +20,12 @@ use Rattle.json_text.specs.declared.Next.the-variants.{At, Bad}
 use Rattle.json_text.specs.declared.Text.{Text}
 use Rattle.trusted_list.specs.Entries.{firstEntry, nextEntry, Coming}
 use Rattle.trusted_list.proofs.EntryLaws.{entries-come}
-use Rattle.causes.specs.Causes.{tooLong, cause, kept}
-use Rattle.causes.specs.Owner.{Owns, Judges, causeOf}
+use Rattle.causes.specs.Causes.{cause, kept}
+use Rattle.causes.specs.Owner.{Judges, causeOf}
 use Rattle.causes.specs.declared.Verdict.{Verdict}
 use Rattle.causes.specs.declared.Verdict.the-variants.{Kept}
 use Rattle.decision.specs.Meaning.{Owned, IdsThere, entriesAt}
-use Rattle.decision.proofs.EntrySteps.{Spans, Comes, string-spans, next-ahead, comes-at, nothing-comes, entries-at, kept-step, no-string, end-is, held-entry, long-dropped, over-dropped}
+use Rattle.decision.proofs.EntrySteps.{Comes, string-spans, next-ahead, comes-at, nothing-comes, entries-at, kept-step, no-string, end-is, held-entry, long-dropped, over-dropped}
 use Rattle.decision.proofs.PlainEntry.{plain-ends, plain-is, keeps, judged}
 use Rattle.cleaning.specs.Clean.{quoted}
 use Rattle.cleaning.specs.Meaning.{names, opening, idText, idsText, Adds, adds-it, adds-none, SizedPart, SizedIs, Small, no-size, small-size}

@@ -1,20 +1,16 @@
 -- The ids written one behind the other.
 use mathlib.Core.Path.{_≡_, refl, sym, ap, _∙_}
 use mathlib.Core.Bool.{Bool, true, false}
-use mathlib.Core.List.{List, [], _∷_, _++_, map, append-assoc, append-nil}
-use mathlib.Core.Option.{Option, none, some}
-use Prim.Native.Nat.{ℕ, zero, suc, _+_, _-_, _*_, _≤_, _<_}
-use native.Mathlib.Nat.{add-zero}
+use mathlib.Core.List.{List, [], _∷_, _++_, append-assoc, append-nil}
+use Prim.Native.Nat.{ℕ, _+_, _-_, _*_, _≤_, _<_}
 use native.Mathlib.Omega.{arith}
-use lib.Dec.{eqb, leb, ltb}
-use lib.ListN.{length, take, drop, length-append, length-drop, take-append-drop}
-use lib.Seq.{length-take-le}
-use borrow.Author.Tests.{eq-eqb, ne-eqb, lt-ltb, le-ltb, le-leb}
-use Rattle.ascii.specs.Ascii.{Bytes, if_then_else_, isNone, text}
+use lib.Dec.{eqb}
+use lib.ListN.{length, take, drop, length-append, take-append-drop}
+use borrow.Author.Tests.{eq-eqb, ne-eqb, le-leb}
+use Rattle.ascii.specs.Ascii.{Bytes, if_then_else_, isNone}
 use Rattle.origin.specs.Origin.{normalForm}
 use Rattle.origin.specs.Parts.{writtenAt, behind, Wrote}
 use Rattle.origin.proofs.Writings.{wrote-place, wrote-length, wrote-then}
-use Rattle.json_text.specs.Reader.{got}
 use Rattle.json_text.specs.Lexical.{readString}
 use Rattle.json_text.specs.Places.{readAt, placeOf, contentOf, Holds}
 use Rattle.json_text.specs.PlainString.{PlainIs}
@@ -23,12 +19,11 @@ use Rattle.json_text.specs.declared.Next.the-variants.{At, Bad}
 use Rattle.json_text.specs.declared.Text.{Text}
 use Rattle.trusted_list.specs.Entries.{firstEntry, nextEntry, Coming}
 use Rattle.trusted_list.proofs.EntryLaws.{entries-come}
-use Rattle.causes.specs.Causes.{cause}
-use Rattle.causes.specs.Owner.{Owns, Judges, causeOf}
+use Rattle.causes.specs.Owner.{Judges, causeOf}
 use Rattle.causes.specs.declared.Verdict.{Verdict}
 use Rattle.causes.specs.declared.Verdict.the-variants.{Kept}
 use Rattle.decision.specs.Meaning.{Owned, IdsThere, entriesAt}
-use Rattle.decision.proofs.EntrySteps.{Spans, Comes, string-spans, next-ahead, comes-at, nothing-comes, entries-at, no-string, end-is, held-entry, long-dropped, over-dropped}
+use Rattle.decision.proofs.EntrySteps.{Comes, string-spans, next-ahead, comes-at, nothing-comes, entries-at, no-string, end-is, held-entry, long-dropped, over-dropped}
 use Rattle.decision.proofs.PlainEntry.{plain-ends, plain-is, keeps, judged}
 use Rattle.cleaning.specs.Meaning.{names, opening, idText, idsText, IdWrote, Puts, puts-it, puts-none, PutPart, PutIs}
 use Rattle.cleaning.specs.declared.Put.{Put}

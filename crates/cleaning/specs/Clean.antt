@@ -1,6 +1,6 @@
 -- Cleaning (document 01, "The list", last paragraphs).
-use mathlib.Core.List.{List, [], _∷_, _++_, map}
-use mathlib.Core.Bool.{Bool, true, false, not}
+use mathlib.Core.List.{List, _∷_, _++_, map}
+use mathlib.Core.Bool.{not}
 use mathlib.Core.Option.{Option, none, some}
 use Prim.Native.Nat.{ℕ}
 use Prim.Native.Char.{code}

@@ -1,12 +1,11 @@
 -- What the code of cleaning answers, in the terms of Clean.
 use mathlib.Core.Path.{_≡_}
 use mathlib.Core.Bool.{Bool, true, false}
-use mathlib.Core.List.{List, [], _∷_, _++_, map}
-use mathlib.Core.Option.{Option, none, some}
+use mathlib.Core.List.{List, _∷_, _++_, map}
+use mathlib.Core.Option.{none, some}
 use Prim.Native.Nat.{ℕ, _+_, _-_, _≤_}
 use Prim.Native.Char.{code}
-use lib.ListN.{length, take, drop}
-use lib.Dec.{eqb}
+use lib.ListN.{length, drop}
 use Rattle.ascii.specs.Ascii.{Bytes, if_then_else_, isNone, text, prefixed, joinWith, decimal}
 use Rattle.origin.specs.Origin.{normalForm}
 use Rattle.origin.specs.Parts.{Wrote}
@@ -24,7 +23,7 @@ use Rattle.cleaning.specs.declared.Output.the-variants.{Refused as NotWr
 use Rattle.cleaning.specs.declared.Ready.{Ready}
 use Rattle.cleaning.specs.declared.Ready.the-variants.{Refused, Listed}
 use Rattle.cleaning.specs.declared.Put.{Put}
-use Rattle.cleaning.specs.declared.Put.the-variants.{Stuck, Moves}
+use Rattle.cleaning.specs.declared.Put.the-variants.{Moves}
 use Rattle.cleaning.specs.declared.Sized.{Sized}
 use Rattle.cleaning.specs.declared.Sized.the-variants.{Wrong, Goes}
 

@@ -2,36 +2,33 @@
 use mathlib.Core.Path.{_≡_, refl, sym, ap, _∙_}
 use mathlib.Core.Bool.{Bool, true, false}
 use mathlib.Core.List.{List, [], _∷_}
-use mathlib.Core.Option.{Option, none, some, Option·getD}
-use Prim.Native.Nat.{ℕ, zero, suc, _+_, _-_, _≤_, _<_, _^_}
+use mathlib.Core.Option.{Option, none, some}
+use Prim.Native.Nat.{ℕ, suc, _+_, _-_, _≤_, _<_, _^_}
 use native.Mathlib.Omega.{arith}
 use mir.Syntax.{w64}
 use mir.Val.{Fits}
-use lib.Dec.{eqb, ltb}
+use lib.Dec.{eqb}
 use lib.ListN.{length, take, drop}
-use borrow.Author.Tests.{eqb-true, eqb-false, ltb-false, le-leb}
+use borrow.Author.Tests.{eqb-true, eqb-false}
 use Rattle.ascii.specs.Ascii.{Bytes, if_then_else_, _>>=_ as _then_, isNone, filterBy, text}
 use Rattle.origin.specs.Matching.{facetMatches}
-use Rattle.json_text.specs.Reader.{Read, got, bad, _>>=_, _>>_, oneOf, counted, peek}
-use Rattle.json_text.specs.Lexical.{ws, readChars, readString}
-use Rattle.json_text.specs.Places.{Peeked, readAt, placeOf, fit, content, contentOf, Holds}
+use Rattle.json_text.specs.Reader.{Read, got, bad, _>>=_, _>>_, oneOf, peek}
+use Rattle.json_text.specs.Lexical.{readString}
+use Rattle.json_text.specs.Places.{readAt, placeOf, fit, content, contentOf, Holds}
 use Rattle.json_text.specs.declared.Next.{Next}
 use Rattle.json_text.specs.declared.Next.the-variants.{At, Bad}
 use Rattle.json_text.specs.declared.Text.{Text}
 use Rattle.json_text.proofs.Holding.{content-short}
 use Rattle.json_text.proofs.Steps.{peek-in, one-yes, one-no, no-fall, is-one, not-one, found}
-use Rattle.trusted_list.specs.Slots.{idsAt}
 use Rattle.trusted_list.specs.Entries.{toNext, firstEntry, nextEntry, Coming, over, comes}
-use Rattle.trusted_list.proofs.MemberLaws.{Bound, bound}
+use Rattle.trusted_list.proofs.MemberLaws.{bound}
 use Rattle.trusted_list.proofs.EntryLaws.{entries-come}
-use Rattle.causes.specs.Causes.{Cause, tooLong, cause, kept}
-use Rattle.causes.specs.Owner.{Owns, JudgesHeld, causeOf}
+use Rattle.causes.specs.Causes.{cause, kept}
+use Rattle.causes.specs.Owner.{Owns, causeOf}
 use Rattle.causes.proofs.CauseLaws.{fit-some, held-long, held-over}
-use Rattle.causes.specs.declared.Verdict.{Verdict}
-use Rattle.causes.specs.declared.Verdict.the-variants.{Kept, TooLong}
+use Rattle.causes.specs.declared.Verdict.the-variants.{TooLong}
 use Rattle.decision.specs.Decide.{firstMatch}
 use Rattle.decision.specs.Meaning.{Owned, IdsThere, entriesAt, matchOf, Passes, matches-it, is-kept, is-dropped, PartIs, StepIs}
-use Rattle.decision.specs.declared.Match.{Match}
 use Rattle.decision.specs.declared.Match.the-variants.{At as MatchAt, Nowhere}
 use Rattle.decision.specs.declared.Step.{Step}
 use Rattle.decision.specs.declared.Step.the-variants.{Matched, Goes, Wrong}

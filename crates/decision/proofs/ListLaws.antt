@@ -1,11 +1,10 @@
 -- What the list settles, the whole decision, and the fetch location.
 use mathlib.Core.Path.{_≡_, refl, sym, ap, _∙_}
-use mathlib.Core.Bool.{Bool, true, false, _&&_, not}
+use mathlib.Core.Bool.{Bool, true, false, _&&_}
 use mathlib.Core.List.{List, [], _∷_}
-use mathlib.Core.Option.{Option, none, some, Option·getD}
+use mathlib.Core.Option.{Option, none, some}
 use Prim.Native.Nat.{ℕ, _+_, _-_, _≤_, _<_}
 use native.Mathlib.Omega.{arith}
-use lib.Dec.{eqb}
 use lib.ListN.{length, take, drop}
 use borrow.Author.Tests.{eq-eqb, ne-eqb}
 use Rattle.ascii.specs.Ascii.{Bytes, if_then_else_, _when_, _orElse_, isNone}
@@ -17,19 +16,19 @@ use Rattle.trusted_list.specs.TrustedList.{listRefusal, entries}
 use Rattle.trusted_list.specs.Slots.{idsAt, Answers, is-refused, is-selected}
 use Rattle.trusted_list.specs.declared.Selection.{Selection}
 use Rattle.trusted_list.specs.declared.Selection.the-variants.{Refused as ListRefused, Ids}
-use Rattle.fetch_record.specs.Record.{Redirect, readRecord, lastLocation}
-use Rattle.fetch_record.specs.Meaning.{answerOf as responseOf, target, lastHop, partIn, TargetPlaced, TargetOf, of-none, of-hop, Targets}
+use Rattle.fetch_record.specs.Record.{Redirect}
+use Rattle.fetch_record.specs.Meaning.{answerOf as responseOf, target, lastHop, TargetOf, of-none, of-hop, Targets}
 use Rattle.fetch_record.specs.declared.item.Answer.{Answer as Response}
 use Rattle.fetch_record.specs.declared.Target.{Target}
 use Rattle.fetch_record.specs.declared.Target.the-variants.{NoRedirect, Part}
 use Rattle.fetch_record.proofs.CallerLaws.{target-start, target-end, target-some, target-none}
 use Rattle.causes.specs.Causes.{kept}
-use Rattle.causes.specs.Owner.{Owns, OwnedBy, bad-table, owned}
+use Rattle.causes.specs.Owner.{OwnedBy, bad-table, owned}
 use Rattle.causes.specs.declared.AppOwner.{AppOwner}
 use Rattle.causes.specs.declared.AppOwner.the-variants.{BadTable as NoTable, Label}
 use Rattle.decision.specs.Answer.{refused}
-use Rattle.decision.specs.Decide.{settled, listDue, beforeList, firstMatch, lateRefusal, byPlace, unless, byList, decide}
-use Rattle.decision.specs.Location.{fetchFrom, ifFetch, fetchLocation, Source, nowhere, theAppId, redirect, sourceFrom, sourceIfFetch, fetchSource}
+use Rattle.decision.specs.Decide.{listDue, beforeList, firstMatch, lateRefusal, byPlace, unless, byList, decide}
+use Rattle.decision.specs.Location.{fetchFrom, ifFetch, fetchLocation, Source, nowhere, sourceFrom, sourceIfFetch, fetchSource}
 use Rattle.decision.specs.Meaning.{answerOf, stageOf, Owned, IdsThere, entriesAt, matchOf, byEntries, locationOf, Inside, no-place, app-place, text-place, Stands, at-nowhere, at-app, at-hop, Locates}
 use Rattle.decision.specs.declared.Answer.{Answer}
 use Rattle.decision.specs.declared.Answer.the-variants.{Rule1, Rule2, Rule3, Rule4, Fetch, Refused}

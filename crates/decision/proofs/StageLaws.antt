@@ -1,14 +1,12 @@
 -- What is settled before the list: one law for each way through the code.
 use mathlib.Core.Path.{_≡_, refl, sym, ap, _∙_}
-use mathlib.Core.Bool.{Bool, true, false, _&&_, _||_, not}
-use mathlib.Core.List.{List, [], _∷_}
-use mathlib.Core.Option.{Option, none, some}
-use Prim.Native.Nat.{ℕ, _≤_, _<_}
+use mathlib.Core.Bool.{Bool, true, false, _&&_, _||_}
+use mathlib.Core.List.{[], _∷_}
+use Prim.Native.Nat.{_≤_, _<_}
 use native.Mathlib.Omega.{arith}
-use lib.Dec.{ltb}
 use lib.ListN.{length}
 use borrow.Author.Tests.{lt-ltb, le-ltb}
-use Rattle.ascii.specs.Ascii.{Bytes, if_then_else_, isNone, isEmpty, same}
+use Rattle.ascii.specs.Ascii.{Bytes, if_then_else_, isEmpty, same}
 use Rattle.origin.specs.Origin.{beginsHttps, httpsUrl, webOrigin, isFacet}
 use Rattle.origin.specs.Matching.{sameHost}
 use Rattle.origin.specs.Parts.{authorityIn, Reads}
@@ -18,14 +16,13 @@ use Rattle.origin.specs.declared.Reading.the-variants.{Found, Malformed}
 use Rattle.origin.proofs.Readings.{found, is-none}
 use Rattle.refusals.specs.declared.Refusal.{Refusal}
 use Rattle.refusals.specs.declared.Refusal.the-variants.{Stranger, BadAppId, ForeignAppId}
-use Rattle.fetch_record.specs.Fetching.{Fetching, fetching}
+use Rattle.fetch_record.specs.Fetching.{fetching}
 use Rattle.fetch_record.specs.Meaning.{outcomeOf}
 use Rattle.fetch_record.specs.declared.item.Answer.{Answer as Response}
 use Rattle.fetch_record.specs.declared.Outcome.{Outcome}
 use Rattle.fetch_record.specs.declared.Outcome.the-variants.{Refused as HopRefused, Fetch as MustFetch, Answered}
 use Rattle.decision.specs.Decide.{isBadAppId, byFetch, beforeList}
 use Rattle.decision.specs.Meaning.{answerOf, stageOf}
-use Rattle.decision.specs.declared.Answer.{Answer}
 use Rattle.decision.specs.declared.Answer.the-variants.{Rule1, Rule2, Rule3, Fetch, Refused}
 use Rattle.decision.specs.declared.Stage.{Stage}
 use Rattle.decision.specs.declared.Stage.the-variants.{Settled, ListDue}

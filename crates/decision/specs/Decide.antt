@@ -1,8 +1,8 @@
 -- The decision, in document 01's order ("Fetch record and decision").
 use mathlib.Core.List.{List, [], _∷_}
-use mathlib.Core.Bool.{Bool, true, false, _&&_, _||_, not}
+use mathlib.Core.Bool.{Bool, _&&_, _||_, not}
 use mathlib.Core.Option.{Option, none, some}
-use Prim.Native.Nat.{ℕ, zero, suc}
+use Prim.Native.Nat.{ℕ, suc}
 use lib.ListN.{length}
 use lib.Dec.{eqb, ltb}
 use Rattle.ascii.specs.Ascii.{Bytes, if_then_else_, _>>=_, _when_, _orElse_, isNone, isEmpty, same}

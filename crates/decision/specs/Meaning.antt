@@ -12,7 +12,6 @@ use Rattle.origin.specs.Parts.{part}
 use Rattle.json_text.specs.Reader.{got}
 use Rattle.json_text.specs.Lexical.{readString}
 use Rattle.json_text.specs.Places.{readAt}
-use Rattle.refusals.specs.declared.Refusal.{Refusal}
 use Rattle.refusals.specs.declared.Refusal.the-variants.{BadTable}
 use Rattle.trusted_list.specs.Slots.{idsAt}
 use Rattle.fetch_record.specs.Record.{Redirect}
@@ -20,7 +19,7 @@ use Rattle.fetch_record.specs.Meaning.{answerOf as responseOf}
 use Rattle.causes.specs.Causes.{cause, kept}
 use Rattle.causes.specs.Owner.{Owns}
 use Rattle.decision.specs.Answer.{Answer, rule1, rule2, rule3, rule4, fetch, refused}
-use Rattle.decision.specs.Decide.{Stage, settled, listDue, firstMatch, byPlace, unless}
+use Rattle.decision.specs.Decide.{Stage, settled, listDue, firstMatch, byPlace}
 use Rattle.decision.specs.Location.{Source, nowhere, theAppId, redirect}
 use Rattle.decision.specs.declared.Answer.{Answer as Given}
 use Rattle.decision.specs.declared.Answer.the-variants.{Rule1, Rule2, Rule3, Rule4, Fetch, Refused}
@@ -29,7 +28,7 @@ use Rattle.decision.specs.declared.Stage.the-variants.{Settled, ListDue}
 use Rattle.decision.specs.declared.Match.{Match}
 use Rattle.decision.specs.declared.Match.the-variants.{At as MatchAt, Nowhere}
 use Rattle.decision.specs.declared.Step.{Step}
-use Rattle.decision.specs.declared.Step.the-variants.{Matched, Goes, Wrong}
+use Rattle.decision.specs.declared.Step.the-variants.{Matched, Goes}
 use Rattle.decision.specs.declared.Location.{Location}
 use Rattle.decision.specs.declared.Location.the-variants.{Nothing, AppId, Text}
 

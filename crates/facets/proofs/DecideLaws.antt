@@ -1,5 +1,5 @@
 -- The exported decision: its number, its place, and demand 3. Assumes nothing.
-use mathlib.Core.Path.{_≡_, refl, sym, ap, _∙_}
+use mathlib.Core.Path.{_≡_, sym, ap, _∙_}
 use Prim.Native.Nat.{ℕ, _+_, _≤_, _<_}
 use native.Mathlib.Omega.{arith}
 use mir.Syntax.{w16, w32}
@@ -10,7 +10,6 @@ use Rattle.refusals.specs.declared.Refusal.the-variants.{Stranger, BadAppId, Fo
 use Rattle.refusals.specs.Number.{refusalNumber}
 use Rattle.decision.specs.Answer.{rule4, answerNumber}
 use Rattle.decision.specs.Decide.{decide}
-use Rattle.decision.specs.SameKept.{SameKept}
 use Rattle.decision.specs.Meaning.{answerOf}
 use Rattle.decision.specs.declared.Answer.{Answer}
 use Rattle.decision.specs.declared.Answer.the-variants.{Rule1, Rule2, Rule3, Rule4, Fetch, Refused}

@@ -1,6 +1,5 @@
 -- Demands 2 and 3, as specs/Demands.antt claims them. Assumes nothing.
 use mathlib.Core.Path.{_≡_, sym, ap, _∙_}
-use Prim.Native.Nat.{ℕ}
 use Rattle.ascii.specs.Ascii.{Bytes}
 use Rattle.decision.specs.Decide.{decide}
 use Rattle.decision.proofs.Padding.{padding-decision}
@@ -12,7 +11,7 @@ use Rattle.cleaning.proofs.Twice.{clean-twice}
 use Rattle.cleaning.proofs.ListLaws.{taken}
 use Rattle.tally.proofs.TallyTotal.{tally-total}
 use Rattle.facets.specs.Cleanings.{cleanNumber}
-use Rattle.facets.specs.Demands.{SameAnswers, Padding, Owners, Rereading, Recleaning, Totals}
+use Rattle.facets.specs.Demands.{Padding, Owners, Rereading, Recleaning, Totals}
 
 pub padding : Padding
 padding appid table major minor body₁ body₂ S = record {

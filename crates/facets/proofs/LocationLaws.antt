@@ -1,5 +1,5 @@
 -- The exported fetch location: its three numbers, and the part that they name. Assumes nothing.
-use mathlib.Core.Path.{_≡_, refl, sym, ap, _∙_}
+use mathlib.Core.Path.{_≡_, refl, _∙_}
 use mathlib.Core.Bool.{Bool, true, false, _||_, _&&_, not}
 use mathlib.Core.List.{List, [], _∷_, map, head?}
 use mathlib.Core.Option.{Option, none, some, Option·getD}
@@ -7,16 +7,16 @@ use Prim.Native.Nat.{ℕ, _+_, _-_, _≤_, _<_}
 use native.Mathlib.Omega.{arith}
 use mir.Syntax.{w32}
 use mir.Val.{Fits}
-use lib.ListN.{length, take, drop}
+use lib.ListN.{length}
 use lib.Seq.{take-length}
-use lib.Dec.{eqb, ltb}
+use lib.Dec.{ltb}
 use borrow.Author.Tests.{ltb-false}
 use Rattle.ascii.specs.Ascii.{Bytes, if_then_else_, _>>=_, isNone, lastOf}
 use Rattle.origin.specs.Origin.{beginsHttps, httpsUrl, isFacet}
 use Rattle.refusals.specs.declared.Refusal.the-variants.{Stranger, BadAppId}
 use Rattle.fetch_record.specs.Record.{Redirect, Fetched, location, lastLocation, lastRedirect, readRecord}
 use Rattle.fetch_record.specs.Meaning.{lastHop}
-use Rattle.decision.specs.Answer.{Answer, rule1, rule2, rule3, rule4, fetch, refused}
+use Rattle.decision.specs.Answer.{rule1, rule2, rule3, rule4, fetch, refused}
 use Rattle.decision.specs.Decide.{Stage, settled, listDue, isBadAppId, beforeList}
 use Rattle.decision.specs.Location.{fetchFrom, ifFetch, fetchLocation, Source, nowhere, theAppId, redirect, sourceFrom, sourceIfFetch, fetchSource}
 use Rattle.decision.specs.Meaning.{Stands, at-nowhere, at-app, at-hop, Locates}

@@ -3,7 +3,7 @@ use mathlib.Core.Path.{_≡_, sym, _∙_}
 use Prim.Native.Nat.{ℕ}
 use Rattle.refusals.specs.declared.Refusal.{Refusal}
 use Rattle.refusals.specs.Number.{refusalNumber}
-use Rattle.tally.specs.Tally.{Counts, Tally, notTallied, tallied}
+use Rattle.tally.specs.Tally.{Tally, notTallied, tallied}
 use Rattle.tally.specs.Meaning.{countsOf, tallyOf}
 use Rattle.tally.specs.declared.Counts.{Counts as Held}
 use Rattle.tally.specs.declared.Tallied.{Tallied}

@@ -2,19 +2,19 @@
 use mathlib.Core.Path.{_≡_, refl, sym, ap, _∙_}
 use mathlib.Core.List.{List, [], _∷_, _++_, append-assoc, append-nil}
 use mathlib.Core.Bool.{Bool, true, false, _&&_, _||_, not, and-eq-true-iff}
-use mathlib.Core.Option.{Option, none, some}
+use mathlib.Core.Option.{some}
 use Prim.Native.Nat.{ℕ, zero, suc, _+_, _≤_, _<_}
 use native.Mathlib.Nat.{le-of-suc-le-suc, not-suc-le-zero}
 use native.Mathlib.Omega.{arith}
-use lib.ListN.{length, take, drop, length-append}
+use lib.ListN.{length, length-append}
 use lib.Seq.{drop-append-seam, take-append-seam}
-use lib.Dec.{eqb, leb, ltb}
-use borrow.Author.Tests.{leb-true, leb-false, le-leb, lt-leb, eq-eqb, ne-eqb, eqb-true}
-use Rattle.ascii.specs.Ascii.{Bytes, if_then_else_, between, among, isDigit, text}
-use Rattle.json_text.specs.Reader.{Read, got, bad, Reader, more, behind, _>>=_, _>>_, give, fail, endOfText, peek, satisfy, oneOf, byteRange, countWhile, many, word, ifNext_then_else_, lead_to_then_else_, eitherRead, _or_, mapped, _giving_, asWritten, verbatim, counted}
-use Rattle.json_text.specs.Lexical.{isBlank, ws, digits, int, frac, exp, readNumber, unescaped, readChar, readChars, readString}
-use Rattle.json.specs.Json.{Json, literal, number, string, array, object, toItems, toMembers, items, listed, readMember, readArray, readObject, valueOf, readValue, readText, valueRead, readJson}
-use Rattle.json_text.proofs.Steps.{inside, under, above}
+use lib.Dec.{eqb, leb}
+use borrow.Author.Tests.{leb-true, leb-false, eq-eqb, ne-eqb, eqb-true}
+use Rattle.ascii.specs.Ascii.{Bytes, if_then_else_, between, among, isDigit}
+use Rattle.json_text.specs.Reader.{got, bad, Reader, more, behind, _>>=_, _>>_, give, endOfText, peek, satisfy, oneOf, byteRange, countWhile, many, ifNext_then_else_, lead_to_then_else_, eitherRead, _or_, mapped, _giving_, asWritten, verbatim, counted}
+use Rattle.json_text.specs.Lexical.{isBlank, ws, int, frac, exp, readNumber, unescaped, readChar, readChars, readString}
+use Rattle.json.specs.Json.{Json, number, string, array, object, toItems, toMembers, items, listed, readMember, readArray, readObject, valueOf, readValue, readText, valueRead, readJson}
+use Rattle.json_text.proofs.Steps.{inside, above}
 
 -- p reads the value a from the bytes x, where t stands behind them
 pub record Reads {A : Type 0} (p : Reader A) (x : Bytes) (a : A) (t : Bytes) : Type 0 where

@@ -1,12 +1,12 @@
 -- A text is at least as long as what is read from it: the length bound behind the re-reading theorem.
-use mathlib.Core.Path.{_≡_, refl, sym, ap, _∙_}
+use mathlib.Core.Path.{_≡_, refl, ap, _∙_}
 use mathlib.Core.List.{List, [], _∷_, _++_}
 use mathlib.Core.Bool.{Bool, true, false, _&&_, _||_}
-use mathlib.Core.Option.{Option, none, some}
+use mathlib.Core.Option.{some}
 use Prim.Native.Nat.{ℕ, zero, suc, _+_, _-_, _*_, _≤_, _<_, max, suc-le-suc}
 use native.Mathlib.Omega.{arith}
-use lib.ListN.{length, take, drop, length-append, length-drop, length-take}
-use lib.Dec.{eqb, leb, ltb}
+use lib.ListN.{length, drop, length-append, length-drop, length-take}
+use lib.Dec.{eqb, ltb}
 use Rattle.ascii.specs.Ascii.{Bytes, if_then_else_, isEmpty, between, among, isDigit, text}
 use Rattle.json_text.specs.Reader.{Read, got, bad, Reader, more, behind, _>>=_, _>>_, give, fail, endOfText, peek, satisfy, oneOf, byteRange, countWhile, many, word, ifNext_then_else_, lead_to_then_else_, eitherRead, _or_, mapped, _giving_, asWritten, verbatim, counted}
 use Rattle.json_text.specs.Places.{readAt}

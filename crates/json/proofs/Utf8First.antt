@@ -1,22 +1,22 @@
 -- Testing UTF-8 inside strings is the same as testing the whole text first.
 use mathlib.Core.Path.{_≡_, refl, sym, ap, _∙_}
-use mathlib.Core.List.{List, [], _∷_, _++_, append-assoc}
+use mathlib.Core.List.{[], _∷_, _++_, append-assoc}
 use mathlib.Core.Bool.{Bool, true, false, _&&_, _||_}
 use mathlib.Core.Option.{Option, none, some}
 use Prim.Native.Nat.{ℕ, zero, suc, _+_, _-_, _≤_, _<_}
 use native.Mathlib.Omega.{arith}
-use borrow.Author.Tests.{le-leb, lt-leb, leb-true, leb-false, eqb-true, ne-eqb}
+use borrow.Author.Tests.{le-leb, lt-leb, leb-true, leb-false, ne-eqb}
 use lib.ListN.{length, take, drop, length-drop}
-use lib.Dec.{eqb, leb, ltb}
-use Rattle.ascii.specs.Ascii.{Bytes, if_then_else_, between, among, text}
-use Rattle.json_text.specs.Reader.{Read, got, bad, Reader, more, behind, _>>=_, _>>_, give, fail, endOfText, peek, satisfy, oneOf, byteRange, word, ifNext_then_else_, lead_to_then_else_, mapped, _giving_, asWritten, verbatim, counted}
-use Rattle.json_text.specs.Utf8.{thenTail, thenTails, multibyteChar, encodeUtf8, Due, due, wrong, leadByte, nextByte, utf8From, isUtf8}
-use Rattle.json_text.specs.Lexical.{ws, readNumber, unescaped, escaped, readChar, readChars, readString}
-use Rattle.json.specs.Json.{Json, literal, number, string, array, object, toItems, toMembers, items, listed, readMember, readArray, readObject, valueOf, readValue, readText, valueRead, readJson}
+use lib.Dec.{leb}
+use Rattle.ascii.specs.Ascii.{Bytes, if_then_else_, between, among}
+use Rattle.json_text.specs.Reader.{Read, got, bad, Reader, more, behind, _>>=_, _>>_, give, fail, peek, satisfy, oneOf, byteRange, ifNext_then_else_, lead_to_then_else_, mapped, _giving_, asWritten, verbatim, counted}
+use Rattle.json_text.specs.Utf8.{thenTail, thenTails, multibyteChar, Due, due, wrong, leadByte, nextByte, utf8From, isUtf8}
+use Rattle.json_text.specs.Lexical.{ws, unescaped, readChar, readChars, readString}
+use Rattle.json.specs.Json.{Json, string, array, object, toItems, toMembers, items, listed, readMember, readArray, readObject, valueOf, readValue, readText, valueRead, readJson}
 use Rattle.json.specs.RawJson.{rawUnescaped, rawChar, rawChars, rawString, rawMember, rawArray, rawObject, rawValueOf, rawValue, rawText, rawJson}
 use Rattle.json_text.proofs.Steps.{inside, under, above, between-tells}
 use Rattle.json_text.proofs.Chars.{Ahead, ahead-char}
-use Rattle.json.proofs.Valid.{start, Goes, Leads, Whole, whole-ws, whole-byte, whole-char, whole-string, whole-value, same-start, whole-give, whole-next, leads-bind, whole-items, whole-member, readable-utf8}
+use Rattle.json.proofs.Valid.{start, Goes, Whole, whole-ws, whole-byte, whole-char, whole-string, whole-value, same-start, whole-give, whole-next, leads-bind, whole-items, whole-member, readable-utf8}
 
 -- ---- two readers read the same from UTF-8
 

@@ -1,20 +1,20 @@
 -- A text that is read is UTF-8, byte by byte (RFC 3629): the strings' own tests suffice.
-use mathlib.Core.Path.{_≡_, refl, sym, ap, _∙_}
-use mathlib.Core.List.{List, [], _∷_, _++_}
+use mathlib.Core.Path.{_≡_, refl, sym, _∙_}
+use mathlib.Core.List.{[], _∷_, _++_}
 use mathlib.Core.Bool.{Bool, true, false, _&&_, _||_}
-use mathlib.Core.Option.{Option, none, some}
+use mathlib.Core.Option.{some}
 use Prim.Native.Nat.{ℕ, zero, suc, _+_, _-_, _*_, _≤_, _<_}
 use native.Mathlib.Omega.{arith}
 use borrow.Author.Tests.{le-leb, lt-leb, leb-true, leb-false, eqb-true, ltb-true}
-use lib.ListN.{length, take, drop}
+use lib.ListN.{length, drop}
 use lib.Seq.{drop-drop}
 use lib.Dec.{eqb, leb, ltb}
 use Rattle.ascii.specs.Ascii.{Bytes, if_then_else_, isEmpty, between, among, isDigit, text}
 use Rattle.json_text.specs.Reader.{Read, got, bad, Reader, more, behind, _>>=_, _>>_, give, fail, endOfText, peek, satisfy, oneOf, byteRange, countWhile, many, word, ifNext_then_else_, lead_to_then_else_, eitherRead, _or_, mapped, _giving_, asWritten, verbatim, counted}
-use Rattle.json_text.specs.Utf8.{thenTail, thenTails, multibyteChar, encodeUtf8, Due, due, wrong, leadByte, nextByte, complete, utf8From, isUtf8}
+use Rattle.json_text.specs.Utf8.{thenTail, thenTails, multibyteChar, encodeUtf8, Due, due, leadByte, nextByte, utf8From, isUtf8}
 use Rattle.json_text.specs.Lexical.{isBlank, ws, digits, int, frac, exp, readNumber, unescaped, hexValue, hexDigit, hex4, lowAfter, codePoint, escaped, readChar, readChars, readString}
-use Rattle.json.specs.Json.{Json, literal, number, string, array, object, toItems, toMembers, items, listed, readMember, readArray, readObject, valueOf, readValue, readText, valueRead, readJson}
-use Rattle.json_text.proofs.Steps.{inside, under, above}
+use Rattle.json.specs.Json.{Json, number, string, array, object, toItems, toMembers, items, listed, readMember, readArray, readObject, valueOf, readValue, readText, valueRead, readJson}
+use Rattle.json_text.proofs.Steps.{inside, above}
 use Rattle.json_text.proofs.EscapeSteps.{hex-high}
 
 abbrev pub start : Due

@@ -1,23 +1,22 @@
 -- The ways through a value, a member and a whole text.
 use mathlib.Core.Path.{_≡_, refl, ap, sym, _∙_}
 use mathlib.Core.Bool.{Bool, true, false, _&&_, _||_, not}
-use mathlib.Core.List.{List, [], _∷_, _++_}
+use mathlib.Core.List.{[], _∷_, _++_}
 use Prim.Native.Nat.{ℕ, zero, suc, _+_, _-_, _*_, _≤_, _<_}
 use native.Mathlib.Omega.{arith}
-use mathlib.Core.Option.{Option, none, some}
-use lib.ListN.{length, drop, drop-of-length-le}
+use lib.ListN.{length, drop-of-length-le}
 use lib.Seq.{drop-cons}
 use lib.Dec.{leb}
 use borrow.Author.Tests.{leb-true, leb-false}
 use native.Mathlib.Nat.{add-zero}
-use Rattle.ascii.specs.Ascii.{Bytes, if_then_else_, isEmpty, isNone, text}
-use Rattle.json_text.specs.Reader.{Read, got, bad, Reader, more, give, fail, endOfText, oneOf, word, peek, ifNext_then_else_, _giving_, verbatim, mapped}
+use Rattle.ascii.specs.Ascii.{Bytes, if_then_else_, isNone}
+use Rattle.json_text.specs.Reader.{Read, got, bad, Reader, more, fail, endOfText, word, ifNext_then_else_, _giving_, verbatim}
 use Rattle.json_text.specs.Lexical.{ws, readNumber, readString}
 use Rattle.json.specs.Json.{Json, literal, number, string, listed, readMember, readArray, readObject, valueOf, readValue, readText, valueRead, readJson}
 use Rattle.json_text.specs.Places.{Peeked, readAt, placeOf}
 use Rattle.json_text.specs.declared.Next.{Next}
 use Rattle.json_text.specs.declared.Next.the-variants.{At, Bad}
-use Rattle.json_text.proofs.Steps.{on, then-bad, one-yes, one-no, next-yes, next-no, give-at, fail-at, giving-at, place-giving, place-verbatim, found, missed, is-one, not-one}
+use Rattle.json_text.proofs.Steps.{on, then-bad, one-yes, one-no, next-no, give-at, fail-at, place-giving, place-verbatim, found, missed, is-one, not-one}
 
 -- ---- values
 

@@ -1,6 +1,6 @@
 -- The grammar without UTF-8: an unescaped character of a string is any one byte from 0x20 on but the quotation mark and the backslash.
 -- proofs/Utf8First.antt: readJson reads what this reads, where the whole text is UTF-8, and nothing else.
-use mathlib.Core.List.{List, [], _∷_, _++_}
+use mathlib.Core.List.{[], _∷_, _++_}
 use mathlib.Core.Option.{Option}
 use Prim.Native.Nat.{ℕ, zero, suc}
 use Rattle.ascii.specs.Ascii.{Bytes, text}

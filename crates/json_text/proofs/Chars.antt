@@ -1,13 +1,12 @@
 -- The ways through a string.
 use mathlib.Core.Path.{_≡_, refl, ap, sym, _∙_}
 use mathlib.Core.Bool.{Bool, true, false, _&&_, _||_}
-use mathlib.Core.List.{List, [], _∷_, _++_}
-use Prim.Native.Nat.{ℕ, zero, suc, _+_, _-_, _*_, _≤_, _<_}
+use mathlib.Core.List.{[], _∷_, _++_}
+use Prim.Native.Nat.{ℕ, suc, _+_, _-_, _*_, _≤_, _<_}
 use native.Mathlib.Omega.{arith}
 use lib.ListN.{length, drop, length-drop}
-use lib.Seq.{drop-drop}
 use Rattle.ascii.specs.Ascii.{Bytes, if_then_else_, between, among}
-use Rattle.json_text.specs.Reader.{Read, got, bad, Reader, more, behind, _>>=_, satisfy, give, fail, peek, ifNext_then_else_, lead_to_then_else_, mapped, _giving_, asWritten, verbatim, counted}
+use Rattle.json_text.specs.Reader.{Read, got, bad, Reader, more, behind, _>>=_, satisfy, fail, peek, ifNext_then_else_, lead_to_then_else_, mapped, _giving_, asWritten, verbatim, counted}
 use Rattle.json_text.specs.Utf8.{multibyteChar, encodeUtf8}
 use Rattle.json_text.specs.Lexical.{unescaped, escaped, readChar, readChars, readString}
 use Rattle.json_text.specs.Places.{Peeked, readAt, placeOf, pointOf}
@@ -15,7 +14,7 @@ use Rattle.json_text.specs.declared.Next.{Next}
 use Rattle.json_text.specs.declared.Next.the-variants.{At, Bad}
 use Rattle.json_text.specs.declared.Point.{Point}
 use Rattle.json_text.specs.declared.Point.the-variants.{Code, Wrong}
-use Rattle.json_text.proofs.Steps.{on, then-bad, one-yes, one-no, next-yes, next-no, give-at, fail-at, counted-at, giving-at, place-giving, place-verbatim, no-fall, place-mapped, map-give, found, missed, point-found, point-missed, is-one, not-one}
+use Rattle.json_text.proofs.Steps.{on, then-bad, one-yes, one-no, next-yes, next-no, give-at, counted-at, giving-at, place-verbatim, place-mapped, map-give, found, missed, point-found, point-missed, is-one, not-one}
 
 -- ---- one character
 

@@ -1,18 +1,17 @@
 -- The loop that reads digits as a number of at most 65535.
-use mathlib.Core.Path.{_≡_, refl, ap, sym, _∙_}
-use mathlib.Core.Bool.{Bool, true, false, _&&_, not, and-false}
-use mathlib.Core.List.{List, [], _∷_}
+use mathlib.Core.Path.{_≡_, refl, sym, _∙_}
+use mathlib.Core.Bool.{Bool, true, false, _&&_}
+use mathlib.Core.List.{[], _∷_}
 use mathlib.Core.Option.{Option, none, some}
-use Prim.Native.Nat.{ℕ, zero, suc, _+_, _-_, _*_, _≤_, _<_}
+use Prim.Native.Nat.{ℕ, suc, _+_, _-_, _*_, _≤_, _<_}
 use native.Mathlib.Omega.{arith}
 use native.Mathlib.Numerals.{add-one}
 use borrow.Author.Tests.{le-leb, lt-leb}
 use lib.Dec.{leb}
 use lib.ListN.{length, getD, take, drop, drop-of-length-le}
 use lib.Seq.{drop-cons, take-nil}
-use Rattle.ascii.specs.Ascii.{Bytes, all, isDigit, isEmpty, value, valueFrom, number16, _when_}
+use Rattle.ascii.specs.Ascii.{Bytes, all, isDigit, value, valueFrom, number16, _when_}
 use Rattle.json_text.specs.Places.{numberOf}
-use Rattle.json_text.specs.declared.Number.{Number}
 use Rattle.json_text.specs.declared.Number.the-variants.{Is, Other}
 use Rattle.json_text.proofs.Steps.{inside, under, above}
 

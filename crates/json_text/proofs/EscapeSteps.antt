@@ -1,25 +1,24 @@
 -- The ways through an escape.
-use mathlib.Core.Path.{_≡_, refl, ap, sym, _∙_}
+use mathlib.Core.Path.{_≡_, refl, _∙_}
 use mathlib.Core.Bool.{Bool, true, false, _&&_, _||_}
-use mathlib.Core.List.{List, [], _∷_, _++_}
-use Prim.Native.Nat.{ℕ, zero, suc, _+_, _-_, _*_, _≤_, _<_}
+use mathlib.Core.List.{[], _∷_, _++_}
+use Prim.Native.Nat.{ℕ, _+_, _-_, _*_, _≤_, _<_}
 use native.Mathlib.Omega.{arith}
 use mir.Syntax.{w64}
 use mir.Val.{Fits}
 use Prim.Native.Nat.{_^_}
-use lib.Dec.{leb, ltb}
-use lib.ListN.{length, drop}
-use lib.Seq.{drop-drop}
+use lib.Dec.{leb}
+use lib.ListN.{length}
 use borrow.Author.Tests.{lt-ltb, le-ltb, leb-true, leb-false}
 use Rattle.ascii.specs.Ascii.{Bytes, if_then_else_, between}
-use Rattle.json_text.specs.Reader.{Read, got, bad, Reader, more, behind, _>>=_, satisfy, word, peek, give, fail, lead_to_then_else_}
+use Rattle.json_text.specs.Reader.{got, bad, more, behind, _>>=_, satisfy, word, give, lead_to_then_else_}
 use Rattle.json_text.specs.Lexical.{hexValue, hexDigit, hex4, lowAfter, codePoint, escaped}
 use Rattle.json_text.specs.Places.{Peeked, readAt, placeOf, pointOf}
 use Rattle.json_text.specs.declared.Next.{Next}
 use Rattle.json_text.specs.declared.Next.the-variants.{At, Bad}
 use Rattle.json_text.specs.declared.Point.{Point}
 use Rattle.json_text.specs.declared.Point.the-variants.{Code, Wrong}
-use Rattle.json_text.proofs.Steps.{on, then-bad, lead-yes, lead-no, give-at, fail-at, found, missed, point-found, point-missed, inside, under, above, more-more, peek-in}
+use Rattle.json_text.proofs.Steps.{on, then-bad, lead-yes, lead-no, give-at, fail-at, found, missed, point-found, point-missed, inside, under, above, peek-in}
 
 -- ---- one hexadecimal digit
 

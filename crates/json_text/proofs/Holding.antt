@@ -1,15 +1,15 @@
 -- Decoding a string into a lent array.
 use mathlib.Core.Path.{_≡_, refl, ap, sym, _∙_}
-use mathlib.Core.Bool.{Bool, true, false, _&&_, _||_, not}
-use mathlib.Core.List.{List, [], _∷_, _++_, append-assoc, append-nil}
+use mathlib.Core.Bool.{Bool, true, false, _&&_, _||_}
+use mathlib.Core.List.{[], _∷_, _++_, append-assoc, append-nil}
 use mathlib.Core.Option.{Option, none, some}
-use Prim.Native.Nat.{ℕ, zero, suc, _+_, _-_, _*_, _/_, _%_, _≤_, _<_}
+use Prim.Native.Nat.{ℕ, suc, _+_, _-_, _*_, _/_, _%_, _≤_, _<_}
 use native.Mathlib.Numerals.{add-one}
 use native.Mathlib.Omega.{arith}
-use borrow.Author.Tests.{le-leb, lt-leb, lt-ltb, le-ltb, ltb-true, ltb-false, leb-true, leb-false, eq-eqb, ne-eqb}
+use borrow.Author.Tests.{le-leb, lt-leb, lt-ltb, le-ltb, ltb-false, leb-true, leb-false, eq-eqb, ne-eqb}
 use lib.Dec.{eqb, leb, ltb}
 use lib.ListN.{length, getD, take, drop, set, length-set, length-append, length-take, length-drop, drop-of-length-le}
-use lib.Seq.{drop-cons, drop-drop, take-suc-set, length-take-le, take-nil, getD-take}
+use lib.Seq.{drop-cons, take-suc-set, length-take-le, take-nil, getD-take}
 use Rattle.ascii.specs.Ascii.{Bytes, if_then_else_, same}
 use Rattle.json_text.specs.Reader.{Read, got, bad, Reader, more, mapped, asWritten, verbatim}
 use Rattle.json_text.specs.Utf8.{encodeUtf8}

@@ -1,15 +1,13 @@
 -- The ways through a number.
-use mathlib.Core.Path.{_≡_, refl, ap, sym, _∙_}
-use mathlib.Core.Bool.{Bool, true, false, _&&_, _||_}
-use mathlib.Core.List.{List, [], _∷_, _++_}
-use Prim.Native.Nat.{ℕ, zero, suc, _+_, _-_, _≤_, _<_}
-use native.Mathlib.Omega.{arith}
+use mathlib.Core.Path.{_≡_, sym, _∙_}
+use mathlib.Core.Bool.{true, false, _&&_, _||_}
+use mathlib.Core.List.{[], _∷_, _++_}
+use Prim.Native.Nat.{ℕ, _+_, _-_, _≤_, _<_}
 use types.Run.{OneOf}
 use lib.Dec.{leb}
 use borrow.Author.Tests.{le-leb}
-use lib.ListN.{length}
 use Rattle.ascii.specs.Ascii.{Bytes, isDigit, text}
-use Rattle.json_text.specs.Reader.{Read, got, bad, Reader, give, many, oneOf, optional}
+use Rattle.json_text.specs.Reader.{got, many, oneOf, optional}
 use Rattle.json_text.specs.Lexical.{digits, int, frac, exp, readNumber}
 use Rattle.json_text.specs.Places.{Peeked, readAt, placeOf}
 use Rattle.json_text.specs.declared.Next.{Next}

@@ -1,15 +1,15 @@
 -- A loop that scans bytes of a kind.
-use mathlib.Core.Path.{_≡_, refl, ap, sym, _∙_}
+use mathlib.Core.Path.{_≡_, ap, sym, _∙_}
 use mathlib.Core.Bool.{Bool, true, false, _&&_, _||_}
-use mathlib.Core.List.{List, [], _∷_, _++_}
-use Prim.Native.Nat.{ℕ, zero, suc, _+_, _-_, _≤_, _<_}
+use mathlib.Core.List.{_∷_, _++_}
+use Prim.Native.Nat.{ℕ, _+_, _-_, _≤_, _<_}
 use native.Mathlib.Omega.{arith}
 use native.Mathlib.Numerals.{add-one}
-use lib.ListN.{length, getD, drop, drop-of-length-le}
+use lib.ListN.{length, getD, drop-of-length-le}
 use lib.Seq.{drop-cons}
 use native.Mathlib.Nat.{add-zero}
 use Rattle.ascii.specs.Ascii.{Bytes}
-use Rattle.json_text.specs.Reader.{Read, got, bad, Reader, more, many, countWhile}
+use Rattle.json_text.specs.Reader.{Read, got, more, many, countWhile}
 use Rattle.json_text.specs.Places.{readAt}
 
 module _ (f : ℕ → Bool) (s : Bytes) (i : ℕ) {g : Read (Unit {0})} (e : readAt (many f) s i ≡ g) where

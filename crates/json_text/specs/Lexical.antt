@@ -1,5 +1,5 @@
 -- The lexical grammar of JSON (RFC 8259, sections 2, 6 and 7), with its ABNF above each definition.
-use mathlib.Core.List.{List, [], _∷_, _++_}
+use mathlib.Core.List.{[], _∷_, _++_}
 use mathlib.Core.Bool.{Bool, _||_}
 use Prim.Native.Nat.{ℕ, zero, suc, _+_, _-_, _*_}
 use Prim.Native.Char.{code}

@@ -1,8 +1,7 @@
 -- Readers: what stands at the front of a text, and how many bytes it takes up.
-use mathlib.Core.List.{List, [], _∷_}
-use mathlib.Core.Bool.{Bool, true, false, _&&_, _||_}
-use Prim.Native.Nat.{ℕ, zero, suc, _+_}
-use lib.Dec.{eqb, leb}
+use mathlib.Core.List.{[], _∷_}
+use mathlib.Core.Bool.{Bool, _&&_, _||_}
+use Prim.Native.Nat.{ℕ, suc, _+_}
 use lib.ListN.{length, take, drop}
 use Rattle.ascii.specs.Ascii.{Bytes, if_then_else_, isEmpty, between, among}
 

@@ -1,10 +1,10 @@
 -- UTF-8 (RFC 3629).
-use mathlib.Core.List.{List, [], _∷_}
+use mathlib.Core.List.{[], _∷_}
 use mathlib.Core.Bool.{Bool, true, false, _&&_}
 use Prim.Native.Nat.{ℕ, zero, suc, _+_, _/_, _%_}
-use lib.Dec.{eqb, leb, ltb}
+use lib.Dec.{leb, ltb}
 use Rattle.ascii.specs.Ascii.{Bytes, if_then_else_, between}
-use Rattle.json_text.specs.Reader.{Reader, _>>=_, _>>_, give, fail, byteRange, lead_to_then_else_}
+use Rattle.json_text.specs.Reader.{Reader, _>>=_, _>>_, fail, byteRange, lead_to_then_else_}
 
 -- UTF8-tail = %x80-BF
 abbrev pub utf8Tail : Reader (Unit {0})

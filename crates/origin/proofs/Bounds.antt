@@ -1,9 +1,9 @@
 -- How long a facet can be: 269 bytes, those of an ios identity. Assumes nothing.
-use mathlib.Core.Path.{_≡_, refl, sym, ap, _∙_}
-use mathlib.Core.List.{List, [], _∷_, _++_}
+use mathlib.Core.Path.{_≡_, refl, ap, _∙_}
+use mathlib.Core.List.{[], _∷_, _++_}
 use mathlib.Core.Bool.{Bool, true, false, _&&_, _||_, not, and-eq-true-iff}
 use mathlib.Core.Option.{Option, none, some}
-use Prim.Native.Nat.{ℕ, zero, suc, _+_, _-_, _*_, _≤_, _<_}
+use Prim.Native.Nat.{ℕ, _+_, _-_, _*_, _≤_, _<_}
 use native.Mathlib.Omega.{arith}
 use lib.ListN.{length, drop, length-drop}
 use lib.Dec.{eqb, leb}
@@ -12,7 +12,7 @@ use Rattle.ascii.specs.Ascii.{Bytes, if_then_else_, _>>=_, _when_, isNone, isEm
 use Rattle.ascii.proofs.NumberLaws.{digit-in}
 use Rattle.suffix.specs.Host.{isHost, isLabel, labels}
 use Rattle.origin.specs.Origin.{Authority, androidPrefix, iosPrefix, isPort, isHostByte, readHttps, webOrigin, isKeyHashByte, isAndroid, isIos, isNative, isFacet}
-use Rattle.origin.proofs.Origins.{ReadOf, origin-read, same-eq, port-digits, facet-native-else}
+use Rattle.origin.proofs.Origins.{origin-read, same-eq, port-digits, facet-native-else}
 
 both : (a b : Bool) → (a && b) ≡ true → (a ≡ true) × (b ≡ true)
 both a b = and-eq-true-iff a b .0

@@ -1,15 +1,15 @@
 -- The normal form of a facet is printable ASCII that a JSON string holds as it is. Assumes nothing.
-use mathlib.Core.Path.{_≡_, refl, sym, ap, ap₂, _∙_}
-use mathlib.Core.List.{List, [], _∷_, _++_}
-use mathlib.Core.Bool.{Bool, true, false, _&&_, _||_, not, and-false, and-eq-true-iff}
+use mathlib.Core.Path.{_≡_, refl, sym, ap, _∙_}
+use mathlib.Core.List.{[], _∷_, _++_}
+use mathlib.Core.Bool.{Bool, true, false, _&&_, _||_, and-false, and-eq-true-iff}
 use mathlib.Core.Option.{Option, none, some}
-use Prim.Native.Nat.{ℕ, zero, suc, _+_, _-_, _≤_, _<_}
+use Prim.Native.Nat.{ℕ, _+_, _-_, _≤_, _<_}
 use native.Mathlib.Omega.{arith}
 use lib.ListN.{length, drop}
 use lib.Dec.{T, eqb, leb}
 use borrow.Author.Tests.{leb-true, leb-false, lt-leb, ne-eqb}
 use Rattle.ascii.specs.Ascii.{Bytes, if_then_else_, isEmpty, all, between, isDigit, isUpper, isLetter, same, lower, beginsWith, text}
-use Rattle.ascii.proofs.Bytes.{below, each}
+use Rattle.ascii.proofs.Bytes.{each}
 use Rattle.ascii.proofs.ListLaws.{all-append}
 use Rattle.suffix.specs.Host.{isLabelByte}
 use Rattle.origin.specs.Origin.{Authority, androidPrefix, iosPrefix, isPort, isHostByte, webOrigin, isKeyHashByte, isAndroid, isIos, isNative, isFacet, shownPort, normalWeb, normalForm}

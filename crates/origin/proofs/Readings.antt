@@ -1,21 +1,21 @@
 -- Where the parts of a web origin or an HTTPS URL stand. Assumes nothing.
-use mathlib.Core.Path.{_≡_, refl, sym, ap, _∙_}
-use mathlib.Core.Bool.{Bool, true, false, _&&_, _||_, not, and-false, and-true, or-true}
-use mathlib.Core.List.{List, [], _∷_}
+use mathlib.Core.Path.{_≡_, refl, sym, _∙_}
+use mathlib.Core.Bool.{Bool, true, false, _&&_, _||_, not, and-false}
+use mathlib.Core.List.{[], _∷_}
 use mathlib.Core.Option.{Option, none, some}
-use Prim.Native.Nat.{ℕ, zero, suc, _+_, _-_, _≤_, _<_}
+use Prim.Native.Nat.{ℕ, _+_, _-_, _≤_, _<_}
 use native.Mathlib.Numerals.{add-one}
 use native.Mathlib.Omega.{arith}
-use lib.ListN.{length, getD, take, drop, length-drop, drop-of-length-le}
+use lib.ListN.{length, getD, take, drop, drop-of-length-le}
 use lib.Seq.{drop-cons}
-use lib.Dec.{eqb, leb}
-use borrow.Author.Tests.{eq-eqb, ne-eqb, lt-leb, le-leb, leb-true, leb-false}
-use Rattle.ascii.specs.Ascii.{Bytes, if_then_else_, _>>=_, _when_, isNone, isEmpty, all, takeWhile, dropWhile, isDigit, same, sameNoCase, beginsWith, beginsWithNoCase, text, value, valueFrom, number16}
+use lib.Dec.{leb}
+use borrow.Author.Tests.{ne-eqb, lt-leb, le-leb, leb-true, leb-false}
+use Rattle.ascii.specs.Ascii.{Bytes, if_then_else_, _>>=_, _when_, isEmpty, all, takeWhile, isDigit, same, sameNoCase, beginsWith, beginsWithNoCase, text, value, valueFrom, number16}
 use Rattle.ascii.specs.Numbers.{numberOf}
 use Rattle.ascii.specs.declared.decimals.Number.{Number}
 use Rattle.ascii.specs.declared.decimals.Number.the-variants.{Value, Malformed as NoNumber}
 use Rattle.ascii.proofs.Compare.{begins-no-case-short}
-use Rattle.ascii.proofs.Scan.{scan-rest, scan-part, scan-from, scan-to}
+use Rattle.ascii.proofs.Scan.{scan-rest, scan-part, scan-to}
 use Rattle.suffix.specs.Host.{isHost}
 use Rattle.suffix.proofs.Places.{rest-whole}
 use Rattle.origin.specs.Origin.{Authority, beginsHttps, isPort, readPort, isHostByte, readHost, readHttps, webOrigin, isNative, isFacet, isTail, httpsUrl}

@@ -1,8 +1,8 @@
 -- Single steps: bytes, prefixes, tails and native identities. Assumes nothing.
-use mathlib.Core.Path.{_≡_, refl, sym, ap, _∙_}
-use mathlib.Core.Bool.{Bool, true, false, _&&_, _||_, not, and-false, and-true, or-true}
-use mathlib.Core.List.{List, [], _∷_}
-use Prim.Native.Nat.{ℕ, zero, suc, _+_, _-_, _≤_, _<_}
+use mathlib.Core.Path.{_≡_, refl, ap, _∙_}
+use mathlib.Core.Bool.{Bool, true, false, _&&_, _||_, not, and-false, or-true}
+use mathlib.Core.List.{[], _∷_}
+use Prim.Native.Nat.{ℕ, suc, _+_, _-_, _≤_, _<_}
 use native.Mathlib.Omega.{arith}
 use lib.ListN.{length, getD, drop, length-drop}
 use lib.Dec.{eqb, leb, ltb}
@@ -13,7 +13,6 @@ use Rattle.ascii.specs.Numbers.{numberOf}
 use Rattle.ascii.specs.declared.decimals.Number.{Number}
 use Rattle.ascii.specs.declared.decimals.Number.the-variants.{Malformed}
 use Rattle.ascii.proofs.Bytes.{agree}
-use Rattle.ascii.proofs.Scan.{while-length}
 use Rattle.suffix.specs.Host.{isLabelByte}
 use Rattle.origin.specs.Origin.{beginsHttps, androidPrefix, iosPrefix, beginsNative, isHostByte, isKeyHashByte, isAndroid, isIos, isNative, isTailByte, isTail}
 use Rattle.origin.specs.Parts.{portOf, isEnd, beginsTail}

@@ -1,5 +1,5 @@
 -- When a caller matches an entry (document 01, "Fetch record and decision", rules 3 and 4).
-use mathlib.Core.Bool.{Bool, true, false}
+use mathlib.Core.Bool.{Bool, false}
 use mathlib.Core.Option.{Option, none, some}
 use Rattle.ascii.specs.Ascii.{Bytes, if_then_else_, isNone, same, sameNoCase}
 use Rattle.origin.specs.Origin.{Authority, webOrigin}

@@ -1,10 +1,10 @@
 -- What a normal form keeps, and what its bytes are.
-use mathlib.Core.List.{List, []}
-use mathlib.Core.Bool.{Bool, true, false, _&&_, not}
+use mathlib.Core.List.{[]}
+use mathlib.Core.Bool.{Bool, _&&_, not}
 use Prim.Native.Nat.{ℕ}
 use Prim.Native.Char.{code}
 use lib.Dec.{eqb}
-use Rattle.ascii.specs.Ascii.{Bytes, if_then_else_, isEmpty, between, lower, value}
+use Rattle.ascii.specs.Ascii.{if_then_else_, isEmpty, between, lower, value}
 use Rattle.origin.specs.Origin.{Authority}
 use Rattle.origin.specs.Parts.{isHidden}
 

@@ -1,19 +1,16 @@
 -- The whole tally: a refusal, or the counts of the selected entries.
-use mathlib.Core.Path.{_≡_, sym, ap, _∙_}
+use mathlib.Core.Path.{_≡_, _∙_}
 use mathlib.Core.Bool.{Bool}
-use mathlib.Core.Option.{Option, none, some}
 use Prim.Native.Nat.{ℕ, _≤_}
 use lib.ListN.{length}
 use Rattle.ascii.specs.Ascii.{Bytes}
 use Rattle.refusals.specs.declared.Refusal.{Refusal}
-use Rattle.trusted_list.specs.TrustedList.{entries}
 use Rattle.decision.specs.Meaning.{Owned, IdsThere, entriesAt}
-use Rattle.cleaning.specs.Clean.{cleanRefusal}
 use Rattle.cleaning.specs.Meaning.{ListedAt, Prepares}
 use Rattle.cleaning.specs.declared.Ready.{Ready}
 use Rattle.cleaning.specs.declared.Ready.the-variants.{Refused as NotReady, Listed}
 use Rattle.cleaning.proofs.PrepareLaws.{prepared-refusal, prepared-listed}
-use Rattle.tally.specs.Tally.{Counts, counts, orTally, tally}
+use Rattle.tally.specs.Tally.{counts, orTally, tally}
 use Rattle.tally.specs.Meaning.{countsOf, tallyOf}
 use Rattle.tally.specs.declared.Counts.{Counts as Held}
 use Rattle.tally.specs.declared.Tallied.the-variants.{Refused, Counted}

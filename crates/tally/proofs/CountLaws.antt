@@ -1,14 +1,13 @@
 -- The counts of the entries, entry after entry.
 use mathlib.Core.Path.{_≡_, refl, sym, ap, _∙_}
-use mathlib.Core.Bool.{Bool, true, false}
+use mathlib.Core.Bool.{Bool}
 use mathlib.Core.List.{List, [], _∷_}
 use mathlib.Core.Option.{Option, none, some}
-use Prim.Native.Nat.{ℕ, suc, _+_, _-_, _≤_, _<_}
+use Prim.Native.Nat.{ℕ, _+_, _-_, _≤_, _<_}
 use native.Mathlib.Omega.{arith}
 use lib.Dec.{eqb}
 use lib.ListN.{length, take, drop}
 use Rattle.ascii.specs.Ascii.{Bytes, if_then_else_, filterBy}
-use Rattle.json_text.specs.Reader.{got}
 use Rattle.json_text.specs.Lexical.{readString}
 use Rattle.json_text.specs.Places.{readAt, placeOf, content, contentOf, Holds}
 use Rattle.json_text.specs.PlainString.{PlainIs}
@@ -18,7 +17,7 @@ use Rattle.json_text.specs.declared.Text.{Text}
 use Rattle.trusted_list.specs.Entries.{firstEntry, nextEntry, Coming}
 use Rattle.trusted_list.proofs.EntryLaws.{entries-come}
 use Rattle.causes.specs.Causes.{Cause, tooLong, otherScheme, notFacet, otherLabel, cause}
-use Rattle.causes.specs.Owner.{Owns, Judges, JudgesHeld, causeOf}
+use Rattle.causes.specs.Owner.{Judges, JudgesHeld, causeOf}
 use Rattle.causes.specs.declared.Verdict.{Verdict}
 use Rattle.causes.specs.declared.Verdict.the-variants.{Kept, TooLong, OtherScheme, NotFacet, OtherLabel}
 use Rattle.decision.specs.Meaning.{Owned, IdsThere, entriesAt}

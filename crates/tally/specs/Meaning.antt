@@ -13,7 +13,7 @@ use Rattle.causes.specs.declared.Verdict.{Verdict}
 use Rattle.tally.specs.Tally.{Counts, Tally, notTallied, tallied}
 use Rattle.tally.specs.declared.Counts.{Counts as Held}
 use Rattle.tally.specs.declared.Judged.{Judged}
-use Rattle.tally.specs.declared.Judged.the-variants.{Wrong, Is}
+use Rattle.tally.specs.declared.Judged.the-variants.{Is}
 use Rattle.tally.specs.declared.Tallied.{Tallied}
 use Rattle.tally.specs.declared.Tallied.the-variants.{Refused, Counted}
 

@@ -1,5 +1,5 @@
 -- The tally (document 01, after the decision).
-use mathlib.Core.List.{List, [], _∷_}
+use mathlib.Core.List.{List, _∷_}
 use mathlib.Core.Option.{Option, none, some}
 use Prim.Native.Nat.{ℕ, _+_}
 use lib.ListN.{length}

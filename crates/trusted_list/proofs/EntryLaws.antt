@@ -1,26 +1,25 @@
 -- Going through the entries gives the selected list, whatever blanks and escapes the body uses.
 use mathlib.Core.Path.{_≡_, refl, sym, ap, _∙_}
-use mathlib.Core.Bool.{Bool, true, false, not}
+use mathlib.Core.Bool.{Bool, true, false}
 use mathlib.Core.List.{List, [], _∷_}
 use mathlib.Core.Option.{Option, none, some}
 use Prim.Native.Nat.{ℕ, zero, suc, _+_, _≤_, _<_}
 use native.Mathlib.Omega.{arith}
 use lib.Dec.{eqb}
-use borrow.Author.Tests.{eqb-true, eqb-false, eq-eqb}
+use borrow.Author.Tests.{eqb-true, eqb-false}
 use lib.ListN.{length, drop}
-use Rattle.ascii.specs.Ascii.{Bytes, if_then_else_, _>>=_ as _then_, isNone, among, text}
+use Rattle.ascii.specs.Ascii.{Bytes, if_then_else_, _>>=_ as _then_}
 use Rattle.json_text.specs.Reader.{Read, got, bad, Reader, _>>=_, _>>_, give, fail, oneOf, peek, ifNext_then_else_, mapped, counted}
 use Rattle.json_text.specs.Lexical.{ws, readString}
 use Rattle.json_text.specs.Places.{Peeked, readAt, placeOf}
-use Rattle.json_text.specs.declared.Next.{Next}
 use Rattle.json_text.specs.declared.Next.the-variants.{At, Bad}
 use Rattle.json_text.proofs.Steps.{on, then-bad, one-yes, one-no, next-yes, next-no, give-at, fail-at, giving-at, counted-at, is-one, not-one}
 use Rattle.json.specs.Json.{Json, string, array, toItems, items, listed, readValue, valueRead, valueOf, readArray, readObject}
 use Rattle.trusted_list.specs.TrustedList.{asArray, asString, strings, readIds}
 use Rattle.trusted_list.specs.Slots.{idsAt, isString}
 use Rattle.trusted_list.specs.Entries.{toFirst, toNext, firstEntry, nextEntry, Coming, over, comes}
-use Rattle.trusted_list.proofs.MemberLaws.{Bound, bound}
-use Rattle.trusted_list.proofs.FirstByte.{Given, given, array-at, string-first, not-array}
+use Rattle.trusted_list.proofs.MemberLaws.{bound}
+use Rattle.trusted_list.proofs.FirstByte.{given, array-at, string-first, not-array}
 
 -- ---- the code's steps
 

@@ -1,20 +1,20 @@
 -- What the first byte of a value tells of it.
 use mathlib.Core.Path.{_≡_, refl, sym, ap, _∙_}
-use mathlib.Core.Bool.{Bool, true, false, _&&_, _||_, not, and-false}
-use mathlib.Core.List.{List, [], _∷_}
-use mathlib.Core.Option.{Option, none, some}
+use mathlib.Core.Bool.{Bool, true, false, _&&_, _||_, and-false}
+use mathlib.Core.List.{[], _∷_}
+use mathlib.Core.Option.{none}
 use Prim.Native.Nat.{ℕ, zero, suc, _+_, _-_, _≤_, _<_}
 use native.Mathlib.Omega.{arith}
 use lib.Dec.{eqb, leb}
-use lib.ListN.{length, take, drop, length-drop}
+use lib.ListN.{take, drop}
 use borrow.Author.Tests.{eqb-true, eqb-false, eq-eqb, ne-eqb, lt-leb}
-use Rattle.ascii.specs.Ascii.{Bytes, if_then_else_, _when_, isEmpty, isNone, all, among, isDigit, value, number16, text}
-use Rattle.json_text.specs.Reader.{Read, got, bad, Reader, more, peek, fail, word, ifNext_then_else_, _giving_, verbatim, asWritten, mapped}
+use Rattle.ascii.specs.Ascii.{Bytes, if_then_else_, _when_, all, among, isDigit, number16}
+use Rattle.json_text.specs.Reader.{Read, got, bad, Reader, more, peek, fail, ifNext_then_else_, _giving_, verbatim, asWritten, mapped}
 use Rattle.json_text.specs.Lexical.{readNumber, readString}
 use Rattle.json_text.specs.Places.{Peeked, readAt}
 use Rattle.json_text.proofs.Steps.{on, one-yes, next-yes, next-no, fail-at, giving-at, is-one}
 use Rattle.json.specs.Json.{Json, literal, number, string, array, object, Jsons, Members, toItems, toMembers, listed, readMember, readArray, readObject, valueOf, readValue}
-use Rattle.trusted_list.specs.TrustedList.{asObject, asArray, asString, asNumber, readNumber16}
+use Rattle.trusted_list.specs.TrustedList.{asObject, asArray, readNumber16}
 use Rattle.trusted_list.specs.Slots.{isString}
 
 -- ---- objects and arrays

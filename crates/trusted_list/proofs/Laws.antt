@@ -1,5 +1,4 @@
 -- The sets of laws that answer needs.
-use borrow.Author.Needs.{needs}
 pub use Rattle.json_text.proofs.Laws.{fits}
 use Rattle.trusted_list.proofs.SlotLaws.{slot-laws}
 use Rattle.trusted_list.proofs.Walks.{walk-empty, walk-starts, walk-bad, walk-end, walk-other, walk-less, walk-more}

@@ -3,20 +3,19 @@ use mathlib.Core.Path.{_≡_, refl, sym, ap, _∙_}
 use mathlib.Core.Bool.{Bool, true, false, _&&_, _||_, not, and-true}
 use mathlib.Core.List.{List, [], _∷_, _++_}
 use mathlib.Core.Option.{Option, none, some}
-use Prim.Native.Nat.{ℕ, zero, suc, _+_, _-_, _≤_, _<_}
+use Prim.Native.Nat.{ℕ, suc, _+_, _-_, _≤_, _<_}
 use native.Mathlib.Omega.{arith}
-use lib.Dec.{eqb, leb}
-use lib.ListN.{length, take, drop}
+use lib.Dec.{eqb}
 use borrow.Author.Tests.{eq-eqb, ne-eqb}
 use Rattle.ascii.specs.Ascii.{Bytes, if_then_else_, _>>=_, _orElse_, isNone, all, same, text}
-use Rattle.json_text.specs.Reader.{Read, got, bad, mapped}
+use Rattle.json_text.specs.Reader.{got, mapped}
 use Rattle.json_text.specs.Places.{Peeked, readAt, placeOf}
 use Rattle.json_text.specs.PlainString.{AsciiString, is-short, is-unknown}
 use Rattle.json_text.specs.declared.Next.{Next}
 use Rattle.json_text.specs.declared.Next.the-variants.{At, Bad}
 use Rattle.json_text.proofs.Steps.{found, missed}
 use Rattle.json.proofs.Values.{value-string}
-use Rattle.json.specs.Json.{Json, array, object, Jsons, toItems, toMembers, readMember, readValue, valueRead, listed}
+use Rattle.json.specs.Json.{Json, array, object, toItems, toMembers, readMember, readValue, valueRead, listed}
 use Rattle.trusted_list.specs.TrustedList.{asObject, asArray, asString, valuesOf, only, once, readNumber16, Version, readVersion, strings, readIds, Listing, readListing, listings, readListings, readList, isWanted, select}
 use Rattle.trusted_list.specs.Slots.{Relates, Extends, Came, Once, never, one, again, Name, Names, slotRead, twoRead, numberSlot, NumberIs, versionSlot, VersionIs, versionOf, idsAt, IdsIs, no-ids, ids-held, isString, stringsSlot, Strings, ListingIs, no-listing, not-wanted, is-wanted, listingOf, Selects, misshapen, nothing, selects, Listings, ListIs, earlier, BodyIs, no-list, list-is}
 use Rattle.trusted_list.specs.declared.Slot.{Slot}
@@ -26,7 +25,7 @@ use Rattle.trusted_list.specs.declared.Found.{Found}
 use Rattle.trusted_list.specs.declared.Found.the-variants.{Wrong, Value}
 use Rattle.trusted_list.specs.declared.Walked.{Walked}
 use Rattle.trusted_list.specs.declared.Walked.the-variants.{Stuck, Through}
-use Rattle.trusted_list.proofs.Walks.{Has, slot-has, slot-not, two-has, two-not, is-slot, no-slot, is-two, no-two}
+use Rattle.trusted_list.proofs.Walks.{slot-has, slot-not, two-has, two-not, is-slot, no-slot, is-two, no-two}
 use Rattle.trusted_list.proofs.MemberLaws.{Short, Apart}
 use Rattle.trusted_list.proofs.FirstByte.{object-at, array-at, string-first, not-object, not-array}
 

@@ -2,21 +2,21 @@
 use mathlib.Core.Path.{_≡_, refl, sym, ap, ap₂, _∙_}
 use mathlib.Core.Bool.{Bool, true, false}
 use mathlib.Core.List.{List, [], _∷_, _++_, append-nil}
-use mathlib.Core.Option.{Option, none, some}
-use Prim.Native.Nat.{ℕ, zero, suc, _+_, _≤_, _<_}
+use mathlib.Core.Option.{none, some}
+use Prim.Native.Nat.{ℕ, _+_, _≤_, _<_}
 use native.Mathlib.Omega.{arith}
-use lib.Dec.{eqb, leb}
-use lib.ListN.{length, drop}
-use borrow.Author.Tests.{le-leb, leb-false}
+use lib.Dec.{leb}
+use lib.ListN.{length}
+use borrow.Author.Tests.{leb-false}
 use Rattle.ascii.specs.Ascii.{Bytes, if_then_else_, same, text}
 use Rattle.ascii.proofs.Compare.{same-eq}
-use Rattle.json_text.specs.Reader.{Read, got, bad, Reader, more, _>>=_, _>>_, give, oneOf, mapped}
+use Rattle.json_text.specs.Reader.{Read, got, bad, Reader, _>>=_, _>>_, oneOf, mapped}
 use Rattle.json_text.specs.Lexical.{ws, readString}
 use Rattle.json_text.specs.Places.{Peeked, readAt, placeOf, fit, contentOf, isText}
 use Rattle.json_text.specs.declared.Next.{Next}
 use Rattle.json_text.specs.declared.Next.the-variants.{At, Bad}
 use Rattle.json_text.proofs.Steps.{on, then-bad, one-yes, one-no, give-at, giving-at, found, missed, is-one, not-one}
-use Rattle.json.specs.Json.{Json, Members, noMember, member, toMembers, readMember, readValue}
+use Rattle.json.specs.Json.{Json, toMembers, readMember, readValue}
 use Rattle.trusted_list.specs.TrustedList.{valuesOf}
 use Rattle.trusted_list.specs.Slots.{Relates, Extends, Came, Once, never, one, again, Name, Names, slotRead, twoRead, memberName, fill}
 use Rattle.trusted_list.specs.declared.Slot.{Slot}
@@ -24,9 +24,8 @@ use Rattle.trusted_list.specs.declared.Slot.the-variants.{Absent, Held, 
 use Rattle.trusted_list.specs.declared.Two.{Two}
 use Rattle.trusted_list.specs.declared.Found.{Found}
 use Rattle.trusted_list.specs.declared.Found.the-variants.{Wrong, Value}
-use Rattle.trusted_list.specs.declared.Walked.{Walked}
 use Rattle.trusted_list.specs.declared.Walked.the-variants.{Stuck, Through}
-use Rattle.trusted_list.proofs.Walks.{Has, slot-has, slot-not, is-two, no-two}
+use Rattle.trusted_list.proofs.Walks.{slot-has, slot-not, is-two, no-two}
 
 -- ---- the name
 

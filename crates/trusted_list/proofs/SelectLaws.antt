@@ -1,13 +1,11 @@
 -- The whole body: its refusal, or the place of the selected ids.
 use mathlib.Core.Path.{_≡_, refl, sym, ap, _∙_}
-use mathlib.Core.Bool.{Bool, true, false}
 use mathlib.Core.List.{List, [], _∷_}
 use mathlib.Core.Option.{Option, none, some, Option·getD}
-use Prim.Native.Nat.{ℕ, zero, suc, _+_, _≤_, _<_}
+use Prim.Native.Nat.{ℕ, _+_, _≤_, _<_}
 use native.Mathlib.Nat.{add-zero}
 use native.Mathlib.Omega.{arith}
-use lib.Dec.{ltb}
-use lib.ListN.{length, drop, drop-of-length-le}
+use lib.ListN.{length, drop-of-length-le}
 use lib.Seq.{drop-cons}
 use borrow.Author.Tests.{lt-ltb, le-ltb}
 use Rattle.ascii.specs.Ascii.{Bytes, if_then_else_, _>>=_, isNone}
@@ -16,7 +14,6 @@ use Rattle.json_text.specs.Lexical.{ws}
 use Rattle.json_text.specs.Places.{readAt}
 use Rattle.json_text.proofs.Steps.{on, then-bad, give-at}
 use Rattle.json.specs.Json.{Json, readValue, readText, valueRead, readJson}
-use Rattle.refusals.specs.declared.Refusal.{Refusal}
 use Rattle.refusals.specs.declared.Refusal.the-variants.{LongList, Unreadable, Misshapen, NoVersion}
 use Rattle.trusted_list.specs.TrustedList.{Listing, readList, select, readBody, selected, listRefusal, entries}
 use Rattle.trusted_list.specs.Slots.{Relates, slotRead, idsAt, Selects, misshapen, nothing, selects, BodyIs, no-list, list-is, Answers, is-refused, is-selected}
@@ -24,7 +21,6 @@ use Rattle.trusted_list.specs.declared.Slot.{Slot}
 use Rattle.trusted_list.specs.declared.Slot.the-variants.{Absent, Held, Other, Spoiled}
 use Rattle.trusted_list.specs.declared.Found.{Found}
 use Rattle.trusted_list.specs.declared.Found.the-variants.{Wrong, Value}
-use Rattle.trusted_list.specs.declared.Selection.{Selection}
 use Rattle.trusted_list.specs.declared.Selection.the-variants.{Refused, Ids}
 use Rattle.trusted_list.proofs.Walks.{Has, slot-has, slot-not}
 

@@ -1,34 +1,29 @@
 -- The shape of each value of the list, by what the pass holds.
 use mathlib.Core.Path.{_≡_, refl, sym, ap, _∙_}
-use mathlib.Core.Bool.{Bool, true, false, _&&_, _||_, not}
-use mathlib.Core.List.{List, [], _∷_, _++_}
+use mathlib.Core.Bool.{_&&_, _||_}
+use mathlib.Core.List.{[], _∷_, _++_}
 use mathlib.Core.Option.{Option, none, some}
-use Prim.Native.Nat.{ℕ, zero, suc, _+_, _-_, _≤_, _<_}
+use Prim.Native.Nat.{ℕ, _+_, _-_, _≤_, _<_}
 use native.Mathlib.Omega.{arith}
-use lib.Dec.{eqb, leb}
 use lib.ListN.{length, take, drop}
-use borrow.Author.Needs.{needs}
 use Rattle.ascii.specs.Ascii.{Bytes, if_then_else_, same, text, number16}
 use Rattle.ascii.specs.Numbers.{numberOf}
 use Rattle.ascii.specs.declared.decimals.Number.{Number}
 use Rattle.ascii.specs.declared.decimals.Number.the-variants.{Value as Is, Malformed}
-use Rattle.json_text.specs.Reader.{Read, got, bad, Reader, mapped}
-use Rattle.json_text.specs.Places.{Peeked, readAt, placeOf}
+use Rattle.json_text.specs.Places.{readAt, placeOf}
 use Rattle.json_text.specs.declared.Next.{Next}
 use Rattle.json_text.specs.declared.Next.the-variants.{At, Bad}
 use Rattle.json_text.proofs.Steps.{found, missed}
-use Rattle.json.specs.Json.{Json, toMembers, readMember, readValue, listed}
-use Rattle.json.proofs.Sizes.{Spans, value-spans}
+use Rattle.json.specs.Json.{Json, toMembers, readValue}
+use Rattle.json.proofs.Sizes.{value-spans}
 use Rattle.trusted_list.specs.TrustedList.{valuesOf, readNumber16}
-use Rattle.trusted_list.specs.Slots.{Relates, Extends, Came, Once, never, Name, Names, slotRead, twoRead, fill, numberSlot, NumberIs}
+use Rattle.trusted_list.specs.Slots.{Relates, Came, never, Names, slotRead, numberSlot, NumberIs}
 use Rattle.trusted_list.specs.declared.Slot.{Slot}
-use Rattle.trusted_list.specs.declared.Slot.the-variants.{Absent, Held, Other, Spoiled}
-use Rattle.trusted_list.specs.declared.Two.{Two}
-use Rattle.trusted_list.specs.declared.Found.{Found}
+use Rattle.trusted_list.specs.declared.Slot.the-variants.{Absent, Held, Spoiled}
 use Rattle.trusted_list.specs.declared.Found.the-variants.{Wrong, Value}
-use Rattle.trusted_list.proofs.Walks.{Has, is-slot, no-slot}
+use Rattle.trusted_list.proofs.Walks.{is-slot, no-slot}
 use Rattle.trusted_list.proofs.FirstByte.{number-text}
-use Rattle.trusted_list.proofs.MemberLaws.{Short, Apart}
+use Rattle.trusted_list.proofs.MemberLaws.{Apart}
 
 -- ---- a number
 

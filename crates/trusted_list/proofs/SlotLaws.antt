@@ -1,8 +1,7 @@
 -- What the pass holds of two values together: one law for each way through the code.
 use mathlib.Core.Path.{_≡_, refl}
-use mathlib.Core.Bool.{true, false, _&&_, and-false}
+use mathlib.Core.Bool.{_&&_}
 use Prim.Native.Nat.{ℕ}
-use lib.Dec.{eqb}
 use borrow.Author.Tests.{eq-eqb, ne-eqb}
 use Rattle.ascii.specs.Ascii.{if_then_else_}
 use Rattle.trusted_list.specs.Slots.{fill, versionOf, listingOf, earlier}

@@ -2,14 +2,13 @@
 use mathlib.Core.Path.{_≡_}
 use mathlib.Core.List.{List, [], _∷_, _++_}
 use mathlib.Core.Bool.{Bool, true, false, _&&_, not}
-use mathlib.Core.Option.{Option, none, some, Option·getD}
+use mathlib.Core.Option.{Option, none, some}
 use Prim.Native.Nat.{ℕ}
 use lib.Dec.{eqb}
 use Rattle.ascii.specs.Ascii.{Bytes, if_then_else_, isNone, all, text}
-use Rattle.json_text.specs.Reader.{Read, got, bad, Reader, _>>=_, _>>_, give, fail, oneOf, ifNext_then_else_}
+use Rattle.json_text.specs.Reader.{Read, got, bad, Reader, _>>=_, _>>_, give, oneOf, ifNext_then_else_}
 use Rattle.json_text.specs.Lexical.{ws, readString}
-use Rattle.json_text.specs.Places.{readAt, placeOf}
-use Rattle.json_text.specs.declared.Next.{Next}
+use Rattle.json_text.specs.Places.{readAt}
 use Rattle.json.specs.Json.{Json, toItems, toMembers, readValue, valueRead}
 use Rattle.refusals.specs.declared.Refusal.{Refusal}
 use Rattle.trusted_list.specs.TrustedList.{Version, Listing, valuesOf, asString, readNumber16, readVersion, readIds, readListing, listings, readListings, readList, isWanted, select, listRefusal, entries}
