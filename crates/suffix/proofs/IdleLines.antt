@@ -16,7 +16,7 @@ use Rattle.suffix.specs.Host.{labels, isLabelByte, isHost}
 use Rattle.suffix.specs.Place.{Stands, isBoundary, endsAtLabel}
 use Rattle.suffix.specs.Suffix.{normal, isBlank, isSkipped, readRule, readLines}
 use Rattle.suffix.specs.Pass.{bestOf, joinBest, oneRule, readLine, inLine, inContent}
-use Rattle.suffix.specs.Depth.{depthOf, lineDepth, linesDepth, Tail}
+use Rattle.suffix.specs.Depth.{depthOf, lineDepth, linesDepth, Past}
 use Rattle.suffix.specs.Deeper.{goesDeeper}
 use Rattle.suffix.specs.declared.Best.{Best}
 use Rattle.suffix.specs.declared.Best.the-variants.{Bad, Sizes}
@@ -26,7 +26,7 @@ use Rattle.suffix.proofs.Shapes.{host-empty}
 use Rattle.suffix.proofs.Lines.{no-host, rule-host, host-no, begins-is, other-read, line-empty, line-comment}
 use Rattle.suffix.proofs.Passes.{join-zero, lines-at, lines-on}
 use Rattle.suffix.proofs.Deepens.{name-not}
-use Rattle.suffix.proofs.Climbs.{depth-le, leb-depth, depth-one, lines-more, lines-done, depth-empty, depth-comment}
+use Rattle.suffix.proofs.Climbs.{shallow, depth-one, lines-more, lines-done, depth-empty, depth-comment}
 use Rattle.suffix.proofs.PlainHosts.{no-plain, dot-plain}
 
 -- ---- places
@@ -96,19 +96,11 @@ pub record FindsTo (host w : Bytes) (d : ℕ) : Type 0 where
   pub best : Sizes 0 0 ≡ bestOf (labels host) (readLine w)
   pub depth : lineDepth (labels host) (readLine w) ≤ d
 
-pub finds-to : (host tail w : Bytes) (d : ℕ) → isHost w ≡ true → labels tail ≡ lastOf (suc d) (labels host) → endsAtLabel w host ≡ false → endsAtLabel tail w ≡ false → FindsTo host w d
+pub finds-to : (host tail w : Bytes) (d : ℕ) → isHost w ≡ true → Past host tail d → endsAtLabel w host ≡ false → endsAtLabel tail w ≡ false → FindsTo host w d
 finds-to host tail w d h T e f = record {
   best = rw (host-read w h) (host-no host w h (sym e) refl);
-  depth = rw (host-read w h, rule-host w h, ← depth-one (labels host) (normal (labels w))) (go (ltb d (length (labels host))) refl);
+  depth = rw (host-read w h, rule-host w h, ← depth-one (labels host) (normal (labels w))) (omega (arith, shallow host tail (normal (labels w)) d T (name-not tail w h false (sym f) refl) refl));
 }
-  where
-    go : (u : Bool) → ltb d (length (labels host)) ≡ u → depthOf (labels host) (normal (labels w)) ≤ d
-    go true l =
-        let n : false ≡ goesDeeper (labels tail) (normal (labels w)) = name-not tail w h false (sym f) refl in
-        let m = leb-depth (suc d) (labels host) (normal (labels w)) (omega arith) (ltb-true d (length (labels host)) l) in
-        let o = leb-false (suc d) (depthOf (labels host) (normal (labels w))) (sym m ∙ ap (λ (ls : List Bytes). goesDeeper ls (normal (labels w))) (sym T) ∙ sym n) in
-        omega (arith, o)
-    go false l = omega (arith, ltb-false d (length (labels host)) l, depth-le (labels host) (normal (labels w)))
 
 -- ---- last bytes
 
@@ -143,7 +135,7 @@ ends-empty w l e =
 -- the host's last label
 record Ending (host : Bytes) : Type 0 where
   pub tail : Bytes
-  pub is : Tail host tail
+  pub is : Past host tail 0
   pub last : 1 ≤ length tail → lastByte tail ≡ lastByte host
 
 last-label : (ls : List Bytes) → lastOf 1 ls ≡ drop (length ls - 1) ls
@@ -173,7 +165,7 @@ none-of false n = refl
 pub finds-unlike : (host w : Bytes) → isHost w ≡ true → isPlain (lastByte w) ≡ true → (lowerByte (lastByte w) ≡ lowerByte (lastByte host) → ⊥) → FindsTo host w 0
 finds-unlike host w h p n =
     let E = ending host in
-    finds-to host (E .tail) w 0 h (E .is .is) (none-of (endsAtLabel w host) (λ e. n (ends-last w host some e))) (none-of (endsAtLabel (E .tail) w) (apart (E .tail) (E .last)))
+    finds-to host (E .tail) w 0 h (E .is) (none-of (endsAtLabel w host) (λ e. n (ends-last w host some e))) (none-of (endsAtLabel (E .tail) w) (apart (E .tail) (E .last)))
   where
     some : 1 ≤ length w
     some = go (length w) refl
