@@ -145,6 +145,9 @@ module _ {s : Bytes} {from i : ℕ} (E : SameEnd s from i) where
   pub end-out : length s ≤ i → i ≡ from + length (takeWhile inLine (drop from s))
   end-out h = scan-end inLine s i h (E .is)
 
+  pub end-lf : i < length s → getD s i 0 ≡ 10 → i ≡ from + length (takeWhile inLine (drop from s))
+  end-lf h e = scan-stop inLine s i h (line-lf (getD s i 0) e) refl (E .is)
+
   pub end-short : {r : ℕ} → r ≡ i + length (takeWhile inLine (drop i s)) → r ≡ from + length (takeWhile inLine (drop from s))
   end-short e = e ∙ E .is
 
@@ -422,7 +425,7 @@ module _ {classes kinds host table : Bytes} {a b c start at : ℕ} (R : Round cl
 
 pub ruleset block-laws = (block-starts, block-ends, block-more, needs)
 
-pub ruleset end-laws = (end-starts, end-out, end-short, end-here, end-more, needs)
+pub ruleset end-laws = (end-starts, end-out, end-lf, end-short, end-here, end-more, needs)
 
 pub ruleset skip-laws = (
   scan-end,

@@ -207,7 +207,7 @@ pub(crate) fn short_end(s: &[u8], from: usize) -> usize
     i
 }
 
-// Where a line ends: its LF, or the end.
+// Where a line ends: its LF, or the end. The first byte alone before a block: many comments are empty.
 pub(crate) fn line_end(s: &[u8], from: usize) -> usize
     ensures { λ r. ⌜ r ≡ from + length (takeWhile inLine (drop from (now (s .entry)))) ⌝ }
 {
@@ -215,6 +215,9 @@ pub(crate) fn line_end(s: &[u8], from: usize) -> usize
     while i < s.len() {
         if s.len() - i < 64 {
             return short_end(s, i);
+        }
+        if s[i] == 10 {
+            return i;
         }
         let n = wide(end_in_block(s, i));
         if n < 64 {
