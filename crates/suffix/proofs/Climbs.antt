@@ -17,7 +17,7 @@ use Rattle.suffix.specs.Place.{Stands, endsAtLabel}
 use Rattle.suffix.specs.Suffix.{Rule, normal, exceptional, content, isSkipped, readRule, readLines, readTable, allMatch, matches, privateLabel}
 use Rattle.suffix.specs.Pass.{maxLabels, sizes, bestOf, oneRule, readLine, inLine, inContent, sizeOf, orEmpty, LabelAt}
 use Rattle.suffix.specs.Deeper.{goesDeeper, deeperIn, isDeeper}
-use Rattle.suffix.specs.Depth.{depthOf, deepest, lineDepth, linesDepth, depthsOf, Good, Tail, deeperThan, LabelFound, OwnerIs, bad-table, owner-is}
+use Rattle.suffix.specs.Depth.{depthOf, deepest, lineDepth, linesDepth, depthsOf, Good, Past, deeperThan, LabelFound, OwnerIs, bad-table, owner-is}
 use Rattle.suffix.specs.declared.Best.{Best}
 use Rattle.suffix.specs.declared.Best.the-variants.{Bad, Sizes}
 use Rattle.suffix.specs.declared.Owner.{Owner}
@@ -93,16 +93,17 @@ any-depth k hl (r ∷ rules) h l = rw (leb-depth k hl r h l, any-depth k hl rule
 
 -- ---- the climb
 
-pub record Climb (host : Bytes) (r : Rule) (k : ℕ) : Type 0 where
-  pub inside : k ≤ length (labels host)
-  pub up : k ≤ depthOf (labels host) r
+-- from the depth d on
+pub record Climb (host : Bytes) (r : Rule) (d k : ℕ) : Type 0 where
+  pub from : d ≤ k
+  pub up : k ≤ max d (depthOf (labels host) r)
 
-pub climb-starts : (host : Bytes) (r : Rule) → Climb host r 0
-climb-starts host r = record { inside = omega arith; up = omega arith }
+pub climb-starts : (host : Bytes) (r : Rule) (d : ℕ) → Climb host r d d
+climb-starts host r d = record { from = omega arith; up = omega arith }
 
-module _ {host : Bytes} {r : Rule} {k : ℕ} (C : Climb host r k) where
-  pub climb-ends : {n : ℕ} → n ≡ length (labels host) → n ≤ k → k ≡ depthOf (labels host) r
-  climb-ends e l = omega (arith, C .up, depth-le (labels host) r)
+module _ {host : Bytes} {r : Rule} {d k : ℕ} (C : Climb host r d k) where
+  pub climb-ends : {n : ℕ} → n ≡ length (labels host) → n ≤ k → k ≡ max d (depthOf (labels host) r)
+  climb-ends e l = omega (arith, C .from, C .up, depth-le (labels host) r)
 
   module _ {n at : ℕ} {b : Bool} (e : n ≡ length (labels host)) (l : k < n) (S : Stands (lastOf (k + 1) (labels host)) host at)
       (t : b ≡ goesDeeper (labels (take (length host - at) (drop at host))) r) where
@@ -110,19 +111,29 @@ module _ {host : Bytes} {r : Rule} {k : ℕ} (C : Climb host r k) where
     tested = t ∙ ap (λ (m : List Bytes). goesDeeper m r) (ap labels (rest-whole host at ∙ S .is) ∙ last-names host (k + 1) (omega arith))
         ∙ leb-depth (k + 1) (labels host) r (omega arith) (omega arith)
 
-    pub climb-more : b ≡ true → Climb host r (k + 1)
-    climb-more w = record { inside = omega arith; up = leb-true (k + 1) (depthOf (labels host) r) (sym tested ∙ w) }
+    pub climb-more : b ≡ true → Climb host r d (k + 1)
+    climb-more w = record { from = omega (arith, C .from); up = omega (arith, leb-true (k + 1) (depthOf (labels host) r) (sym tested ∙ w)) }
 
-    pub climb-stops : b ≡ false → k ≡ depthOf (labels host) r
-    climb-stops w = omega (arith, C .up, leb-false (k + 1) (depthOf (labels host) r) (sym tested ∙ w))
+    pub climb-stops : b ≡ false → k ≡ max d (depthOf (labels host) r)
+    climb-stops w = omega (arith, C .from, C .up, leb-false (k + 1) (depthOf (labels host) r) (sym tested ∙ w))
 
-pub shallow : (host tail : Bytes) (r : Rule) {b : Bool} → Tail host tail → b ≡ goesDeeper (labels tail) r → b ≡ false → 0 ≡ depthOf (labels host) r
-shallow host tail r T t w =
-    let f : leb 1 (depthOf (labels host) r) ≡ false = sym (leb-depth 1 (labels host) r (omega arith) (labels-some host)) ∙ ap (λ (m : List Bytes). goesDeeper m r) (sym (T .is)) ∙ sym t ∙ w in
-    omega (arith, leb-false 1 (depthOf (labels host) r) f)
+-- a rule that does not go deeper than one label more than d
+pub shallow : (host tail : Bytes) (r : Rule) (d : ℕ) {b : Bool} → Past host tail d → b ≡ goesDeeper (labels tail) r → b ≡ false → d ≡ max d (depthOf (labels host) r)
+shallow host tail r d T t w = go (ltb d (length (labels host))) refl
+  where
+    go : (u : Bool) → ltb d (length (labels host)) ≡ u → d ≡ max d (depthOf (labels host) r)
+    go true l =
+        let m = leb-depth (suc d) (labels host) r (omega arith) (ltb-true d (length (labels host)) l) in
+        let f : leb (suc d) (depthOf (labels host) r) ≡ false = sym m ∙ ap (λ (ls : List Bytes). goesDeeper ls r) (sym (T .is)) ∙ sym t ∙ w in
+        omega (arith, leb-false (suc d) (depthOf (labels host) r) f)
+    go false l = omega (arith, ltb-false d (length (labels host)) l, depth-le (labels host) r)
 
-pub tail-is : (host : Bytes) {at : ℕ} → Stands (lastOf 1 (labels host)) host at → Tail host (take (length host - at) (drop at host))
-tail-is host {at} S = record { is = ap labels (rest-whole host at ∙ S .is) ∙ last-names host 1 (omega arith) }
+pub past-is : (host : Bytes) (d : ℕ) {at : ℕ} → Stands (lastOf (suc d) (labels host)) host at → Past host (take (length host - at) (drop at host)) d
+past-is host d {at} S = record { is = ap labels (rest-whole host at ∙ S .is) ∙ last-names host (suc d) (omega arith) }
+
+-- a line that goes no deeper than any label
+pub kept : (d : ℕ) {n : ℕ} → 0 ≡ n → d ≡ max d n
+kept d e = omega (arith, e)
 
 -- ---- one line
 
@@ -198,8 +209,8 @@ module _ (h w : Bytes) where
         pub depth-wild-host : isHost (take (length w - 2) (drop 2 w)) ≡ true
         depth-wild-host = rw (rest-whole w 2) (wild-is .host)
 
-        pub depth-wild : {q : ℕ} → q ≡ depthOf (labels h) (normal ((42 ∷ []) ∷ labels (take (length w - 2) (drop 2 w)))) → q ≡ lineDepth (labels h) (readLine w)
-        depth-wild k = k ∙ rw (rest-whole w 2, R, wild-is .is) (depth-one (labels h) (wild (drop 2 w)))
+        pub depth-wild : (d : ℕ) {q : ℕ} → q ≡ max d (depthOf (labels h) (normal ((42 ∷ []) ∷ labels (take (length w - 2) (drop 2 w))))) → q ≡ max d (lineDepth (labels h) (readLine w))
+        depth-wild d k = k ∙ ap (max d) (rw (rest-whole w 2, R, wild-is .is) (depth-one (labels h) (wild (drop 2 w))))
 
       module _ {b : Bool} (i : b ≡ beginsWith (33 ∷ []) w) (j : b ≡ true) where
         exception-is : Reads (drop 1 w) (readRule w) (exceptional (labels (drop 1 w)))
@@ -208,8 +219,8 @@ module _ (h w : Bytes) where
         pub depth-exception-host : isHost (take (length w - 1) (drop 1 w)) ≡ true
         depth-exception-host = rw (rest-whole w 1) (exception-is .host)
 
-        pub depth-exception : {q : ℕ} → q ≡ depthOf (labels h) (normal (labels (take (length w - 1) (drop 1 w)))) → q ≡ lineDepth (labels h) (readLine w)
-        depth-exception k = k ∙ rw (rest-whole w 1, R, exception-is .is) (same-depth (labels h) (labels (drop 1 w)) ∙ depth-one (labels h) (exceptional (labels (drop 1 w))))
+        pub depth-exception : (d : ℕ) {q : ℕ} → q ≡ max d (depthOf (labels h) (normal (labels (take (length w - 1) (drop 1 w))))) → q ≡ max d (lineDepth (labels h) (readLine w))
+        depth-exception d k = k ∙ ap (max d) (rw (rest-whole w 1, R, exception-is .is) (same-depth (labels h) (labels (drop 1 w)) ∙ depth-one (labels h) (exceptional (labels (drop 1 w)))))
 
       module _ {x y z : Bool} (a : x ≡ same w (42 ∷ [])) (a′ : x ≡ false) (b : y ≡ beginsWith (42 ∷ 46 ∷ []) w) (b′ : y ≡ false) (d : z ≡ beginsWith (33 ∷ []) w) (d′ : z ≡ false) where
         pub depth-host-host : isHost w ≡ true
@@ -219,8 +230,8 @@ module _ (h w : Bytes) where
             go true k = refl
             go false k = told-none (readRule w) good (unfold readRule in (rw (k, sym a ∙ a′, sym b ∙ b′, sym d ∙ d′)))
 
-        pub depth-host : {q : ℕ} → q ≡ depthOf (labels h) (normal (labels w)) → q ≡ lineDepth (labels h) (readLine w)
-        depth-host k = k ∙ rw (R, rule-host w depth-host-host) (depth-one (labels h) (normal (labels w)))
+        pub depth-host : (d : ℕ) {q : ℕ} → q ≡ max d (depthOf (labels h) (normal (labels w))) → q ≡ max d (lineDepth (labels h) (readLine w))
+        depth-host d k = k ∙ ap (max d) (rw (R, rule-host w depth-host-host) (depth-one (labels h) (normal (labels w))))
 
 -- ---- the pass
 

@@ -8,7 +8,7 @@ use native.Mathlib.Numerals.{add-one}
 use lib.ListN.{length, getD, take, drop, length-drop, List·getD-map}
 use lib.Seq.{drop-cons, getD-drop}
 use lib.Dec.{eqb, leb, ltb}
-use borrow.Author.Tests.{eq-eqb, ne-eqb, eqb-true, eqb-false, leb-true, leb-false, ltb-true, ltb-false}
+use borrow.Author.Tests.{eq-eqb, ne-eqb, eqb-true, eqb-false, leb-true, le-ltb, ltb-false}
 use Rattle.ascii.specs.Ascii.{Bytes, if_then_else_, takeWhile, lastOf, isUpper, lowerByte, lower, same, sameNoCase, splitAt, isDigit, isLetter, beginsWith}
 use Rattle.ascii.proofs.Scan.{scan-to}
 use Rattle.ascii.proofs.Split.{join-split}
@@ -16,17 +16,17 @@ use Rattle.suffix.specs.Host.{labels, isLabelByte, isHost}
 use Rattle.suffix.specs.Place.{Stands, isBoundary, endsAtLabel}
 use Rattle.suffix.specs.Suffix.{normal, isBlank, isSkipped, readRule, readLines}
 use Rattle.suffix.specs.Pass.{bestOf, joinBest, oneRule, readLine, inLine, inContent}
-use Rattle.suffix.specs.Depth.{depthOf, lineDepth, linesDepth, Tail}
+use Rattle.suffix.specs.Depth.{lineDepth, linesDepth, Past}
 use Rattle.suffix.specs.Deeper.{goesDeeper}
 use Rattle.suffix.specs.declared.Best.{Best}
 use Rattle.suffix.specs.declared.Best.the-variants.{Bad, Sizes}
 use Rattle.suffix.specs.Idle.{Idle, Skipped, Shallow, lastByte, isPlain}
-use Rattle.suffix.proofs.Ends.{true-false, same-eq, labels-some, Begin, begin-labels, begin-is}
+use Rattle.suffix.proofs.Ends.{true-false, same-eq, labels-some, Begin, begin-labels, begin-is, ends-whole}
 use Rattle.suffix.proofs.Shapes.{host-empty}
-use Rattle.suffix.proofs.Lines.{no-host, rule-host, host-no, begins-is, other-read, line-empty, line-comment}
-use Rattle.suffix.proofs.Passes.{join-zero, lines-at, lines-on}
-use Rattle.suffix.proofs.Deepens.{name-not}
-use Rattle.suffix.proofs.Climbs.{depth-le, leb-depth, depth-one, lines-more, lines-done, depth-empty, depth-comment}
+use Rattle.suffix.proofs.Lines.{no-host, rule-host, host-yes, host-no, begins-is, other-read, line-empty, line-comment}
+use Rattle.suffix.proofs.Passes.{join-zero, join-join, lines-at, lines-on}
+use Rattle.suffix.proofs.Deepens.{name-not, name-ends}
+use Rattle.suffix.proofs.Climbs.{shallow, depth-one, lines-more, lines-done, depth-empty, depth-comment}
 use Rattle.suffix.proofs.PlainHosts.{no-plain, dot-plain}
 
 -- ---- places
@@ -96,19 +96,39 @@ pub record FindsTo (host w : Bytes) (d : ℕ) : Type 0 where
   pub best : Sizes 0 0 ≡ bestOf (labels host) (readLine w)
   pub depth : lineDepth (labels host) (readLine w) ≤ d
 
-pub finds-to : (host tail w : Bytes) (d : ℕ) → isHost w ≡ true → labels tail ≡ lastOf (suc d) (labels host) → endsAtLabel w host ≡ false → endsAtLabel tail w ≡ false → FindsTo host w d
+pub finds-to : (host tail w : Bytes) (d : ℕ) → isHost w ≡ true → Past host tail d → endsAtLabel w host ≡ false → endsAtLabel tail w ≡ false → FindsTo host w d
 finds-to host tail w d h T e f = record {
   best = rw (host-read w h) (host-no host w h (sym e) refl);
-  depth = rw (host-read w h, rule-host w h, ← depth-one (labels host) (normal (labels w))) (go (ltb d (length (labels host))) refl);
+  depth = rw (host-read w h, rule-host w h, ← depth-one (labels host) (normal (labels w))) (omega (arith, shallow host tail (normal (labels w)) d T (name-not tail w h false (sym f) refl) refl));
 }
+
+-- a host that is no end of the other of more than m labels
+pub record Brings (host w : Bytes) (m d : ℕ) : Type 0 where
+  pub size : ℕ
+  pub small : size ≤ m
+  pub best : Sizes 0 size ≡ bestOf (labels host) (readLine w)
+  pub depth : lineDepth (labels host) (readLine w) ≤ d
+
+not-deeper : (tail w : Bytes) → isHost w ≡ true → (ltb (length tail) (length w) && endsAtLabel tail w) ≡ false → false ≡ goesDeeper (labels tail) (normal (labels w))
+not-deeper tail w h f = go (endsAtLabel tail w) refl (ltb (length tail) (length w)) refl f
   where
-    go : (u : Bool) → ltb d (length (labels host)) ≡ u → depthOf (labels host) (normal (labels w)) ≤ d
-    go true l =
-        let n : false ≡ goesDeeper (labels tail) (normal (labels w)) = name-not tail w h false (sym f) refl in
-        let m = leb-depth (suc d) (labels host) (normal (labels w)) (omega arith) (ltb-true d (length (labels host)) l) in
-        let o = leb-false (suc d) (depthOf (labels host) (normal (labels w))) (sym m ∙ ap (λ (ls : List Bytes). goesDeeper ls (normal (labels w))) (sym T) ∙ sym n) in
-        omega (arith, o)
-    go false l = omega (arith, ltb-false d (length (labels host)) l, depth-le (labels host) (normal (labels w)))
+    go : (u : Bool) → endsAtLabel tail w ≡ u → (v : Bool) → ltb (length tail) (length w) ≡ v → (v && u) ≡ false → false ≡ goesDeeper (labels tail) (normal (labels w))
+    go false e v l f = name-not tail w h false (sym e) refl
+    go true e true l f = true-false f
+    go true e false l f =
+        let n = ends-whole tail w e (ltb-false (length tail) (length w) l) in
+        sym (le-ltb (length (labels tail)) (length (labels w)) n) ∙ name-ends tail w h false (sym e) refl refl refl
+
+pub brings-to : (host tail w : Bytes) (m d : ℕ) → isHost w ≡ true → Past host tail d → (endsAtLabel w host && ltb m (length (labels w))) ≡ false
+    → (ltb (length tail) (length w) && endsAtLabel tail w) ≡ false → Brings host w m d
+brings-to host tail w m d h T e f = go (endsAtLabel w host) refl e
+  where
+    deep : lineDepth (labels host) (readLine w) ≤ d
+    deep = rw (host-read w h, rule-host w h, ← depth-one (labels host) (normal (labels w))) (omega (arith, shallow host tail (normal (labels w)) d T (not-deeper tail w h f) refl))
+
+    go : (u : Bool) → endsAtLabel w host ≡ u → (u && ltb m (length (labels w))) ≡ false → Brings host w m d
+    go true k e = record { size = length (labels w); small = ltb-false m (length (labels w)) e; best = rw (host-read w h) (host-yes host w h (sym k) refl refl); depth = deep }
+    go false k e = record { size = 0; small = omega arith; best = rw (host-read w h) (host-no host w h (sym k) refl); depth = deep }
 
 -- ---- last bytes
 
@@ -143,7 +163,7 @@ ends-empty w l e =
 -- the host's last label
 record Ending (host : Bytes) : Type 0 where
   pub tail : Bytes
-  pub is : Tail host tail
+  pub is : Past host tail 0
   pub last : 1 ≤ length tail → lastByte tail ≡ lastByte host
 
 last-label : (ls : List Bytes) → lastOf 1 ls ≡ drop (length ls - 1) ls
@@ -173,7 +193,7 @@ none-of false n = refl
 pub finds-unlike : (host w : Bytes) → isHost w ≡ true → isPlain (lastByte w) ≡ true → (lowerByte (lastByte w) ≡ lowerByte (lastByte host) → ⊥) → FindsTo host w 0
 finds-unlike host w h p n =
     let E = ending host in
-    finds-to host (E .tail) w 0 h (E .is .is) (none-of (endsAtLabel w host) (λ e. n (ends-last w host some e))) (none-of (endsAtLabel (E .tail) w) (apart (E .tail) (E .last)))
+    finds-to host (E .tail) w 0 h (E .is) (none-of (endsAtLabel w host) (λ e. n (ends-last w host some e))) (none-of (endsAtLabel (E .tail) w) (apart (E .tail) (E .last)))
   where
     some : 1 ≤ length w
     some = go (length w) refl
@@ -195,18 +215,21 @@ pub tail-whole : (host : Bytes) (d : ℕ) {n : ℕ} → n ≤ d → n ≡ length
 unfolding lastOf labels
 tail-whole host d h e = let z : length (splitAt 46 host) - suc d ≡ 0 = omega (arith, e) in record { inside = omega arith; is = rw z (sym (join-split 46 host)) }
 
-pub shallow-line : (host table : Bytes) (d at to : ℕ) → at ≤ length table → to ≡ at + length (takeWhile inLine (drop at table)) → FindsTo host (takeWhile inContent (drop at table)) d → Shallow host table d at (to + 1)
-shallow-line host table d at to h g F =
+join-small : (m n : ℕ) (b : Best) → n ≤ m → joinBest (Sizes 0 m) (joinBest (Sizes 0 n) b) ≡ joinBest (Sizes 0 m) b
+join-small m n b h = let z : max m n ≡ m = omega arith in join-join 0 m 0 n b ∙ rw z
+
+pub shallow-line : (host table : Bytes) (m d at to : ℕ) → at ≤ length table → to ≡ at + length (takeWhile inLine (drop at table)) → Brings host (takeWhile inContent (drop at table)) m d → Shallow host table m d at (to + 1)
+shallow-line host table m d at to h g F =
     let s = lines-on (linesDepth (labels host)) (λ l. lineDepth (labels host) (readLine l)) max (lines-more (labels host)) (lines-done (labels host)) table at to g in
     record {
       onward = omega (arith, g);
       inside = omega (arith, scan-to inLine table at to g h);
-      best = lines-at (labels host) table at to g ∙ rw (← F .best) (join-zero (bestOf (labels host) (readLines (splitAt 10 (drop (to + 1) table)))));
+      best = ap (joinBest (Sizes 0 m)) (lines-at (labels host) table at to g) ∙ rw (← F .best) (join-small m (F .size) (bestOf (labels host) (readLines (splitAt 10 (drop (to + 1) table)))) (F .small));
       depth = omega (arith, s, F .depth);
     }
 
-pub shallow-of : {host table : Bytes} (d : ℕ) {from to : ℕ} → Idle host table from to → Shallow host table d from to
-shallow-of d I = record { onward = I .onward; inside = I .inside; best = I .best; depth = ap (max d) (I .depth) }
+pub shallow-of : {host table : Bytes} (m d : ℕ) {from to : ℕ} → Idle host table from to → Shallow host table m d from to
+shallow-of m d I = record { onward = I .onward; inside = I .inside; best = ap (joinBest (Sizes 0 m)) (I .best); depth = ap (max d) (I .depth) }
 
-pub shallow-on : {host table : Bytes} {d from at to : ℕ} → Shallow host table d from at → Shallow host table d at to → Shallow host table d from to
+pub shallow-on : {host table : Bytes} {m d from at to : ℕ} → Shallow host table m d from at → Shallow host table m d at to → Shallow host table m d from to
 shallow-on I J = record { onward = omega (arith, I .onward, J .onward); inside = J .inside; best = I .best ∙ J .best; depth = I .depth ∙ J .depth }

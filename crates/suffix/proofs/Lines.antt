@@ -6,6 +6,8 @@ use mathlib.Core.Option.{Option, none, some}
 use Prim.Native.Nat.{ℕ, zero, suc, _+_, _-_, _≤_, _<_, max}
 use native.Mathlib.Omega.{arith}
 use native.Mathlib.Numerals.{add-one}
+use mir.Val.{Fits}
+use mir.Syntax.{w64}
 use lib.ListN.{length, take, drop}
 use lib.Seq.{take-all}
 use lib.ListN.{length-drop, length-append}
@@ -19,7 +21,7 @@ use Rattle.suffix.specs.Suffix.{Rule, normal, exceptional, isSkipped, re
 use Rattle.suffix.specs.Pass.{maxLabels, sizes, bestOf, oneRule, readLine}
 use Rattle.suffix.specs.declared.Best.{Best}
 use Rattle.suffix.specs.declared.Best.the-variants.{Bad, Sizes}
-use Rattle.suffix.proofs.Ends.{same-eq, labels-some, match-labels, wild, wild-few, wild-more}
+use Rattle.suffix.proofs.Ends.{same-eq, labels-some, labels-few, match-labels, ends-fewer, ends-whole, wild, wild-few, wild-more}
 
 -- ---- what one rule finds
 
@@ -119,6 +121,9 @@ module _ (h w : Bytes) (k : isHost w ≡ true) {b : Bool} (e : b ≡ endsAtLabel
   pub host-no : b ≡ false → Sizes 0 0 ≡ bestOf (labels h) (oneRule (readRule w))
   host-no f = rw (rule-host w k) (one-none (labels h) (normal (labels w)) (match-labels false w h k ∙ sym e ∙ f))
 
+pub wild-fits : (v : Bytes) {n : ℕ} → n ≡ length (labels v) → length v ≤ 251 → Fits w64 (n + 1)
+wild-fits v g l = record { fits = omega (arith, g, labels-few v) }
+
 module _ (h v : Bytes) where
   pub wild-long : 251 < length v → Bad ≡ bestOf (labels h) (oneRule (readRule (42 ∷ 46 ∷ v)))
   wild-long l = rw (rule-wild-long v l) (none-bad (labels h))
@@ -138,12 +143,11 @@ module _ (h v : Bytes) where
           go true m = wild-more v h (sym c ∙ d) (ltb-true (length (labels v)) (length (labels h)) m) ∙ sym e ∙ f
           go false m = wild-few v h (ltb-false (length (labels v)) (length (labels h)) m)
 
-      module _ {n k : ℕ} (g : n ≡ length (labels v)) (i : k ≡ length (labels h)) where
-        pub wild-yes : b ≡ true → n < k → Sizes 0 (n + 1) ≡ bestOf (labels h) (oneRule (readRule (42 ∷ 46 ∷ v)))
-        wild-yes f m = rw (wild-is, g, add-one) (one-normal (labels h) ((42 ∷ []) ∷ labels v) (wild-more v h (sym c ∙ d) (omega arith) ∙ sym e ∙ f))
+      pub wild-yes : {n : ℕ} → b ≡ true → length v < length h → n ≡ length (labels v) → Sizes 0 (n + 1) ≡ bestOf (labels h) (oneRule (readRule (42 ∷ 46 ∷ v)))
+      wild-yes f m g = rw (wild-is, g, add-one) (one-normal (labels h) ((42 ∷ []) ∷ labels v) (wild-more v h (sym c ∙ d) (ends-fewer v h (sym e ∙ f) m) ∙ sym e ∙ f))
 
-        pub wild-less : k ≤ n → Sizes 0 0 ≡ bestOf (labels h) (oneRule (readRule (42 ∷ 46 ∷ v)))
-        wild-less m = rw wild-is (one-none (labels h) (wild v) (wild-few v h (omega arith)))
+      pub wild-less : b ≡ true → length h ≤ length v → Sizes 0 0 ≡ bestOf (labels h) (oneRule (readRule (42 ∷ 46 ∷ v)))
+      wild-less f m = rw wild-is (one-none (labels h) (wild v) (wild-few v h (ends-whole v h (sym e ∙ f) m)))
 
   module _ {a : Bool} (c : a ≡ isHost v) where
     pub exception-bad : a ≡ false → Bad ≡ bestOf (labels h) (oneRule (readRule (33 ∷ v)))

@@ -1,11 +1,12 @@
 -- The laws of the pass over the table, for `search pass-laws`. Assumes nothing.
 use borrow.Author.Needs.{needs}
-use Rattle.suffix.proofs.Climbs.{tail-is, line-good, deeps-long}
-use Rattle.suffix.proofs.SkipLaws.{line-wrong, line-found, passes-first, round-starts, round-ends, part-start, part-end, round-fits, round-lends, round-less, round-wrong, round-more}
+use Rattle.suffix.proofs.Climbs.{past-is, line-good, deeps-long}
+use Rattle.suffix.proofs.SkipLaws.{stands-inside, line-wrong, line-found, passes-first, round-starts, round-ends, part-start, part-end, round-stands, round-fits, round-lends, round-less, round-wrong, round-more}
 
 pub ruleset pass-laws = (
   line-good,
-  tail-is,
+  past-is,
+  stands-inside,
   part-start,
   part-end,
   line-wrong,
@@ -14,6 +15,7 @@ pub ruleset pass-laws = (
   passes-first,
   round-starts,
   round-ends,
+  round-stands,
   round-fits,
   round-lends,
   round-less,

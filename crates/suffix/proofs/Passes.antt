@@ -67,7 +67,7 @@ unfolding joinBest
 join-bad Bad = refl
 join-bad (Sizes e m) = refl
 
-join-join : (e m f n : ℕ) (b : Best) → joinBest (Sizes e m) (joinBest (Sizes f n) b) ≡ joinBest (Sizes (max e f) (max m n)) b
+pub join-join : (e m f n : ℕ) (b : Best) → joinBest (Sizes e m) (joinBest (Sizes f n) b) ≡ joinBest (Sizes (max e f) (max m n)) b
 unfolding joinBest
 join-join e m f n Bad = refl
 join-join e m f n (Sizes g k) = ap₂ Sizes (omega arith) (omega arith)

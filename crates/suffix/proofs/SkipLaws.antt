@@ -1,6 +1,6 @@
 -- The ends of lines, comments, and the pass over lines that find nothing. Assumes nothing.
-use mathlib.Core.Path.{_≡_, refl, sym, ap, _∙_}
-use mathlib.Core.Bool.{Bool, true, false, _||_, not, or-true}
+use mathlib.Core.Path.{_≡_, refl, sym, ap, ap₂, _∙_}
+use mathlib.Core.Bool.{Bool, true, false, _&&_, _||_, not, or-true}
 use mathlib.Core.List.{List, [], _∷_}
 use mathlib.Core.Option.{Option, none, some}
 use Prim.Native.Nat.{ℕ, zero, suc, _+_, _-_, _≤_, _<_, max}
@@ -18,9 +18,9 @@ use Rattle.ascii.specs.Class.{Classifies}
 use Rattle.ascii.proofs.Scan.{scan-end, scan-stop, scan-more, scan-from, scan-to}
 use Rattle.suffix.specs.Host.{labels, isHost}
 use Rattle.suffix.specs.Place.{Stands, endsAtLabel}
-use Rattle.suffix.specs.Suffix.{Rule, readTable, matches}
-use Rattle.suffix.specs.Pass.{maxLabels, sizes, bestOf, readLine, inLine, inContent}
-use Rattle.suffix.specs.Depth.{deepest, lineDepth, linesDepth, depthsOf, Tail}
+use Rattle.suffix.specs.Suffix.{Rule, readLines, readTable, matches}
+use Rattle.suffix.specs.Pass.{maxLabels, sizes, bestOf, joinBest, readLine, inLine, inContent}
+use Rattle.suffix.specs.Depth.{deepest, lineDepth, linesDepth, depthsOf, deepened}
 use Rattle.suffix.specs.Idle.{Idle, Skipped, blockEnd, lfAt, lesser, KindsOf, HostLine, Stopped, at-host, at-other, Passes, Shallow}
 use Rattle.suffix.specs.declared.Best.{Best}
 use Rattle.suffix.specs.declared.Best.the-variants.{Bad, Sizes}
@@ -28,11 +28,9 @@ use Rattle.suffix.specs.declared.Depths.{Depths}
 use Rattle.suffix.specs.declared.Depths.the-variants.{Wrong, Found}
 use Rattle.suffix.specs.declared.skips.Stop.{Stop}
 use Rattle.suffix.specs.declared.skips.Stop.the-variants.{Host, Other}
-use Rattle.suffix.proofs.Passes.{line-lf, line-other, Pass, pass-fits}
-use Rattle.suffix.proofs.Lines.{rest-whole}
-use Rattle.suffix.proofs.Speed.{last-names}
-use Rattle.suffix.proofs.Climbs.{Deeps, deeps-starts, deeps-more, deeps-bad, deeps-ends, tail-is, wrong-best, to-best}
-use Rattle.suffix.proofs.IdleLines.{idle-none, idle-on, idle-empty, idle-comment, tail-more, tail-whole, finds-to, shallow-line, shallow-of, shallow-on}
+use Rattle.suffix.proofs.Passes.{line-lf, line-other, join-join, Pass, pass-fits}
+use Rattle.suffix.proofs.Climbs.{Deeps, deeps-starts, deeps-more, deeps-bad, deeps-ends, past-is, wrong-best}
+use Rattle.suffix.proofs.IdleLines.{idle-none, idle-on, idle-empty, idle-comment, tail-more, tail-whole, brings-to, shallow-line, shallow-of, shallow-on}
 
 -- ---- the end of a line
 
@@ -147,6 +145,9 @@ module _ {s : Bytes} {from i : ℕ} (E : SameEnd s from i) where
   pub end-out : length s ≤ i → i ≡ from + length (takeWhile inLine (drop from s))
   end-out h = scan-end inLine s i h (E .is)
 
+  pub end-lf : i < length s → getD s i 0 ≡ 10 → i ≡ from + length (takeWhile inLine (drop from s))
+  end-lf h e = scan-stop inLine s i h (line-lf (getD s i 0) e) refl (E .is)
+
   pub end-short : {r : ℕ} → r ≡ i + length (takeWhile inLine (drop i s)) → r ≡ from + length (takeWhile inLine (drop from s))
   end-short e = e ∙ E .is
 
@@ -193,15 +194,29 @@ skipped-less P n h = omega (arith, P .onward, n)
 
 -- ---- lines that find nothing
 
-module _ (host tail w : Bytes) {a : Bool} (e : a ≡ endsAtLabel w host) where
-  pub idle-match : a ≡ true → false ≡ not (endsAtLabel w host || endsAtLabel tail w)
+module _ (host w : Bytes) (m : ℕ) {a : Bool} (e : a ≡ endsAtLabel w host) where
+  pub more-no : a ≡ false → false ≡ (endsAtLabel w host && ltb m (length (labels w)))
+  more-no f = rw (← e, f)
+
+  pub more-yes : {n : ℕ} → a ≡ true → n ≡ length (labels w) → ltb m n ≡ (endsAtLabel w host && ltb m (length (labels w)))
+  more-yes f g = rw (← e, f, g)
+
+module _ (tail w : Bytes) where
+  pub deeper-short : length w ≤ length tail → false ≡ (ltb (length tail) (length w) && endsAtLabel tail w)
+  deeper-short h = rw (le-ltb (length tail) (length w) h)
+
+  pub deeper-long : {b : Bool} → length tail < length w → b ≡ endsAtLabel tail w → b ≡ (ltb (length tail) (length w) && endsAtLabel tail w)
+  deeper-long h e = e ∙ rw (lt-ltb (length tail) (length w) h)
+
+module _ (x y : Bool) {a : Bool} (e : a ≡ x) where
+  pub idle-match : a ≡ true → false ≡ not (x || y)
   idle-match f = rw (← e, f)
 
-  module _ {b : Bool} (g : b ≡ endsAtLabel tail w) where
-    pub idle-deep : b ≡ true → false ≡ not (endsAtLabel w host || endsAtLabel tail w)
+  module _ {b : Bool} (g : b ≡ y) where
+    pub idle-deep : b ≡ true → false ≡ not (x || y)
     idle-deep f = rw (← g, f, or-true)
 
-    pub idle-yes : a ≡ false → b ≡ false → true ≡ not (endsAtLabel w host || endsAtLabel tail w)
+    pub idle-yes : a ≡ false → b ≡ false → true ≡ not (x || y)
     idle-yes f h = rw (← e, f, ← g, h)
 
 neither : (a b : Bool) → not (a || b) ≡ true → (a ≡ false) × (b ≡ false)
@@ -243,30 +258,31 @@ module _ {host table : Bytes} {at : ℕ} {q : Stop} (S : Stopped host table at q
     pub host-less : length table - (to + 1) < length table - at
     host-less = omega (arith, to-host S e .idle .onward, to-host S e .line .onward, to-host S e .line .inside)
 
-    pub host-stop : {d from : ℕ} → Shallow host table d from at → Shallow host table d from start
-    host-stop {d} I = shallow-on I (shallow-of d (to-host S e .idle))
+    pub host-stop : {m d from : ℕ} → Shallow host table m d from at → Shallow host table m d from start
+    host-stop {m} {d} I = shallow-on I (shallow-of m d (to-host S e .idle))
 
-    pub host-passed : {d from last : ℕ} {r : Bool} → Shallow host table d from at → Stands (lastOf (suc d) (labels host)) host last
-        → r ≡ not (endsAtLabel (take (to - start) (drop start table)) host || endsAtLabel (take (length host - last) (drop last host)) (take (to - start) (drop start table)))
-        → r ≡ true → Shallow host table d from (to + 1)
-    host-passed {d} {from} {last} I T f g =
+    pub host-passed : {m d from last : ℕ} {r : Bool} → Shallow host table m d from at → Stands (lastOf (suc d) (labels host)) host last
+        → r ≡ not ((endsAtLabel (take (to - start) (drop start table)) host && ltb m (length (labels (take (to - start) (drop start table)))))
+        || (ltb (length (take (length host - last) (drop last host))) (length (take (to - start) (drop start table))) && endsAtLabel (take (length host - last) (drop last host)) (take (to - start) (drop start table))))
+        → r ≡ true → Shallow host table m d from (to + 1)
+    host-passed {m} {d} {from} {last} I T f g =
         let L = to-host S e .line in
         let w = take (to - start) (drop start table) in
         let t = take (length host - last) (drop last host) in
-        let n = neither (endsAtLabel w host) (endsAtLabel t w) (sym f ∙ g) in
-        let F = finds-to host t w d (L .host) (ap labels (rest-whole host last ∙ T .is) ∙ last-names host (suc d) (omega arith)) (n .0) (n .1) in
-        shallow-on (host-stop I) (shallow-line host table d start to (omega (arith, L .onward, L .inside)) (L .ends) (rw (L .whole) F))
+        let n = neither (endsAtLabel w host && ltb m (length (labels w))) (ltb (length t) (length w) && endsAtLabel t w) (sym f ∙ g) in
+        let F = brings-to host t w m d (L .host) (past-is host d T) (n .0) (n .1) in
+        shallow-on (host-stop I) (shallow-line host table m d start to (omega (arith, L .onward, L .inside)) (L .ends) (rw (L .whole) F))
 
   module _ {start : ℕ} (e : q ≡ Other start) where
     pub other-inside : start ≤ length table
     other-inside = to-other S e .inside
 
-    pub other-stop : {d from : ℕ} → Shallow host table d from at → Shallow host table d from start
-    other-stop {d} I = shallow-on I (shallow-of d (to-other S e .idle))
+    pub other-stop : {m d from : ℕ} → Shallow host table m d from at → Shallow host table m d from start
+    other-stop {m} {d} I = shallow-on I (shallow-of m d (to-other S e .idle))
 
     module _ {next : ℕ} (P : Skipped table start next) where
-      pub other-passed : {d from : ℕ} → Shallow host table d from at → Shallow host table d from next
-      other-passed {d} I = shallow-on (other-stop I) (shallow-of d (P .is host))
+      pub other-passed : {m d from : ℕ} → Shallow host table m d from at → Shallow host table m d from next
+      other-passed {m} {d} I = shallow-on (other-stop I) (shallow-of m d (P .is host))
 
       pub other-less : (next ≡ start → ⊥) → at < length table → length table - next < length table - at
       other-less n h = omega (arith, to-other S e .idle .onward, P .onward, n)
@@ -277,13 +293,28 @@ passes-stands P = P .stands
 pub passes-start : {kinds host table : Bytes} {d start from : ℕ} → Passes kinds host table d start from → start ≤ length host
 passes-start P = P .stands .inside
 
-pub shallow-starts : {kinds host table : Bytes} {d start from : ℕ} → Passes kinds host table d start from → Shallow host table d from from
-shallow-starts {host = host} {table = table} {d = d} {from = from} P = shallow-of d (idle-none host table from (P .inside))
+pub shallow-starts : {kinds host table : Bytes} {m d start from : ℕ} → Passes kinds host table d start from → Shallow host table m d from from
+shallow-starts {host = host} {table = table} {m = m} {d = d} {from = from} P = shallow-of m d (idle-none host table from (P .inside))
 
 -- ---- the pass over the table
 
-shallow-deeps : {host table : Bytes} {e m d at to : ℕ} → Deeps host table e m d at → Shallow host table d at to → Deeps host table e m d to
-shallow-deeps D I = record { pass = record { is = rw (← I .best) (D .pass .is) }; depth = sym (I .depth) ∙ D .depth }
+join-parts : (e m : ℕ) (b : Best) → joinBest (Sizes e m) b ≡ joinBest (Sizes e 0) (joinBest (Sizes 0 m) b)
+join-parts e m b = sym (join-join e 0 0 m b ∙ ap₂ (λ (x y : ℕ). joinBest (Sizes x y) b) (no-more e) (no-less m))
+  where
+    no-more : (n : ℕ) → max n 0 ≡ n
+    no-more n = omega arith
+
+    no-less : (n : ℕ) → max 0 n ≡ n
+    no-less n = omega arith
+
+shallow-deeps : {host table : Bytes} {e m d at to : ℕ} → Deeps host table e m d at → Shallow host table m d at to → Deeps host table e m d to
+shallow-deeps {host} {table} {e} {m} {d} {at} {to} D I = record {
+  pass = record {
+    is = join-parts e m (bestOf (labels host) (readLines (splitAt 10 (drop to table)))) ∙ ap (joinBest (Sizes e 0)) (sym (I .best))
+        ∙ sym (join-parts e m (bestOf (labels host) (readLines (splitAt 10 (drop at table))))) ∙ D .pass .is;
+  };
+  depth = sym (I .depth) ∙ D .depth;
+}
 
 pub passes-first : {kinds host table : Bytes} {last : ℕ} → KindsOf host kinds → Stands (lastOf 1 (labels host)) host last → length table ≤ 1048576 → Passes kinds host table 0 last 0
 passes-first K S h = record { kinds-are = K; stands = S; inside = omega arith; short = h }
@@ -295,49 +326,63 @@ deeper-more host depth d h S = let z : max depth d ≡ d = omega arith in rw z S
 pub deeper-same : (host : Bytes) (depth d : ℕ) {r : ℕ} → d ≤ depth → Stands (lastOf (suc depth) (labels host)) host r → Stands (lastOf (suc (max depth d)) (labels host)) host r
 deeper-same host depth d h S = let z : max depth d ≡ depth = omega arith in rw z S
 
-pub record Round (classes kinds host tail table : Bytes) (e m d start at : ℕ) : Type 0 where
+pub record Round (classes kinds host table : Bytes) (e m d start at : ℕ) : Type 0 where
   pub short : length table ≤ 1048576
   pub classes-are : Classifies classes
-  pub tail-of : Tail host tail
   pub lent : KindsOf host kinds
   pub stands : Stands (lastOf (suc d) (labels host)) host start
   pub deeps : Deeps host table e m d at
 
-pub round-starts : {classes kinds host tail table : Bytes} {last at : ℕ} → Shallow host table 0 0 at → Classifies classes → Tail host tail → Passes kinds host table 0 last 0
-    → Round classes kinds host tail table 0 0 0 last at
-round-starts {host = host} {table = table} I C T P = record {
+pub round-starts : {classes kinds host table : Bytes} {last at : ℕ} → Shallow host table 0 0 0 at → Classifies classes → Passes kinds host table 0 last 0
+    → Round classes kinds host table 0 0 0 last at
+round-starts {host = host} {table = table} I C P = record {
   short = P .short;
   classes-are = C;
-  tail-of = T;
   lent = P .kinds-are;
   stands = P .stands;
   deeps = shallow-deeps (deeps-starts host table (P .short)) I;
 }
 
 -- one line
-pub line-wrong : (host w : Bytes) {q : Best} → q ≡ bestOf (labels host) (readLine w) → q ≡ Bad → Wrong ≡ depthsOf (labels host) (readLine w)
-line-wrong host w e f = wrong-best (labels host) (readLine w) (sym f ∙ e)
+pub stands-inside : {ls : List Bytes} {host : Bytes} {start : ℕ} → Stands ls host start → start ≤ length host
+stands-inside S = S .inside
 
-pub line-found : (host w : Bytes) {q : Best} {e m d : ℕ} → q ≡ bestOf (labels host) (readLine w) → q ≡ Sizes e m → d ≡ lineDepth (labels host) (readLine w) → Found e m d ≡ depthsOf (labels host) (readLine w)
-line-found host w {e = e} {m = m} {d = d} t f g = go (readLine w) (sym f ∙ t) g
+pub line-wrong : (host w : Bytes) (c : ℕ) {q : Best} → q ≡ bestOf (labels host) (readLine w) → q ≡ Bad → Wrong ≡ deepened c (depthsOf (labels host) (readLine w))
+unfolding deepened
+line-wrong host w c e f = rw (← wrong-best (labels host) (readLine w) (sym f ∙ e))
+
+pub line-found : (host w : Bytes) (c : ℕ) {q : Best} {e m d : ℕ} → q ≡ bestOf (labels host) (readLine w) → q ≡ Sizes e m → d ≡ max c (lineDepth (labels host) (readLine w))
+    → Found e m d ≡ deepened c (depthsOf (labels host) (readLine w))
+line-found host w c {e = e} {m = m} {d = d} t f g = go (readLine w) (sym f ∙ t) g
   where
-    go : (o : Option (List Rule)) → Sizes e m ≡ bestOf (labels host) o → d ≡ lineDepth (labels host) o → Found e m d ≡ depthsOf (labels host) o
+    go : (o : Option (List Rule)) → Sizes e m ≡ bestOf (labels host) o → d ≡ max c (lineDepth (labels host) o) → Found e m d ≡ deepened c (depthsOf (labels host) o)
     go none t g = unfold bestOf in (let z : _≡_ {A = ℕ} 0 1 = cc in absurd (omega arith))
-    go (some rs) t g = unfold bestOf sizes depthsOf lineDepth in (
+    go (some rs) t g = unfold bestOf sizes depthsOf deepened lineDepth in (
         let x : maxLabels (filterBy (λ r. r .exception) (filterBy (matches (labels host)) rs)) ≡ e = cc in
         let y : maxLabels (filterBy (matches (labels host)) rs) ≡ m = cc in
         rw (x, y, g)
         )
 
-found-depth : (hl : List Bytes) (o : Option (List Rule)) (e m d : ℕ) → Found e m d ≡ depthsOf hl o → d ≡ lineDepth hl o
-unfolding depthsOf lineDepth
-found-depth hl none e m d f = let z : _≡_ {A = ℕ} 0 1 = cc in absurd (omega arith)
-found-depth hl (some rs) e m d f = let x : d ≡ deepest hl rs = cc in x
+found-depth : (hl : List Bytes) (o : Option (List Rule)) (c e m d : ℕ) → Found e m d ≡ deepened c (depthsOf hl o) → d ≡ max c (lineDepth hl o)
+unfolding depthsOf deepened lineDepth
+found-depth hl none c e m d f = let z : _≡_ {A = ℕ} 0 1 = cc in absurd (omega arith)
+found-depth hl (some rs) c e m d f = let x : d ≡ max c (deepest hl rs) = cc in x
 
-wrong-bad : (hl : List Bytes) (o : Option (List Rule)) → Wrong ≡ depthsOf hl o → bestOf hl o ≡ Bad
-unfolding depthsOf bestOf
-wrong-bad hl none f = refl
-wrong-bad hl (some rs) f = let z : _≡_ {A = ℕ} 0 1 = cc in absurd (omega arith)
+found-best : (hl : List Bytes) (o : Option (List Rule)) (c e m d : ℕ) → Found e m d ≡ deepened c (depthsOf hl o) → bestOf hl o ≡ Sizes e m
+unfolding depthsOf deepened bestOf sizes
+found-best hl none c e m d f = let z : _≡_ {A = ℕ} 0 1 = cc in absurd (omega arith)
+found-best hl (some rs) c e m d f =
+    let x : maxLabels (filterBy (λ r. r .exception) (filterBy (matches hl) rs)) ≡ e = cc in
+    let y : maxLabels (filterBy (matches hl) rs) ≡ m = cc in
+    ap₂ Sizes x y
+
+wrong-bad : (hl : List Bytes) (o : Option (List Rule)) (c : ℕ) → Wrong ≡ deepened c (depthsOf hl o) → bestOf hl o ≡ Bad
+unfolding depthsOf deepened bestOf
+wrong-bad hl none c f = refl
+wrong-bad hl (some rs) c f = let z : _≡_ {A = ℕ} 0 1 = cc in absurd (omega arith)
+
+twice : (c d n : ℕ) {z : ℕ} → z ≡ max c d → d ≡ max c n → z ≡ max c n
+twice c d n w p = omega (arith, w, p)
 
 pub part-start : (table : Bytes) {at to : ℕ} → to ≡ at + length (takeWhile inContent (drop at table)) → at ≤ to
 part-start table {at} {to} g = scan-from inContent table at to g
@@ -345,7 +390,10 @@ part-start table {at} {to} g = scan-from inContent table at to g
 pub part-end : (table : Bytes) {at to : ℕ} → to ≡ at + length (takeWhile inContent (drop at table)) → at < length table → to ≤ length table
 part-end table {at} {to} g l = scan-to inContent table at to g (omega arith)
 
-module _ {classes kinds host tail table : Bytes} {a b c start at : ℕ} (R : Round classes kinds host tail table a b c start at) where
+module _ {classes kinds host table : Bytes} {a b c start at : ℕ} (R : Round classes kinds host table a b c start at) where
+  pub round-stands : Stands (lastOf (suc c) (labels host)) host start
+  round-stands = R .stands
+
   pub round-ends : length table ≤ at → Found a b c ≡ depthsOf (labels host) (readTable table)
   round-ends l = deeps-ends (R .deeps) (R .short) l
 
@@ -360,23 +408,24 @@ module _ {classes kinds host tail table : Bytes} {a b c start at : ℕ} (R : Rou
           let b : k ≤ length table = scan-to inLine table to k i a in
           record { kinds-are = R .lent; stands = rw w S; inside = omega arith; short = R .short }
 
-      pub round-less : {d from : ℕ} → Shallow host table d (k + 1) from → length table - from < length table - at
+      pub round-less : {m d from : ℕ} → Shallow host table m d (k + 1) from → length table - from < length table - at
       round-less I = omega (arith, i, g, l, I .onward)
 
-    module _ {q : Depths} (t : q ≡ depthsOf (labels host) (readLine (take (to - at) (drop at table)))) where
+    module _ {q : Depths} (t : q ≡ deepened c (depthsOf (labels host) (readLine (take (to - at) (drop at table))))) where
       pub round-wrong : q ≡ Wrong → Wrong ≡ depthsOf (labels host) (readTable table)
-      round-wrong e = deeps-bad (R .deeps) g {q = bestOf (labels host) (readLine (take (to - at) (drop at table)))} refl (wrong-bad (labels host) (readLine (take (to - at) (drop at table))) (sym e ∙ t))
+      round-wrong e = deeps-bad (R .deeps) g {q = bestOf (labels host) (readLine (take (to - at) (drop at table)))} refl (wrong-bad (labels host) (readLine (take (to - at) (drop at table))) c (sym e ∙ t))
 
-      pub round-more : {from k e m d x y z r : ℕ} → q ≡ Found e m d → Shallow host table z (k + 1) from → k ≡ to + length (takeWhile inLine (drop to table))
-          → x ≡ max a e → y ≡ max b m → z ≡ max c d → Stands (lastOf (suc (max c d)) (labels host)) host r → Round classes kinds host tail table x y z r from
-      round-more {e = e} {m = m} {d = d} f I i u v w S =
+      pub round-more : {from k e m d x y z r : ℕ} → q ≡ Found e m d → Shallow host table y z (k + 1) from → k ≡ to + length (takeWhile inLine (drop to table))
+          → x ≡ max a e → y ≡ max b m → z ≡ max c d → Stands (lastOf (suc (max c d)) (labels host)) host r → Round classes kinds host table x y z r from
+      round-more {e = e} {m = m} {d = d} {z = z} f I i u v w S =
           let o = readLine (take (to - at) (drop at table)) in
-          let D = deeps-more (R .deeps) g {q = bestOf (labels host) o} refl (sym (to-best table host e m d o (sym f ∙ t))) i u v w (found-depth (labels host) o e m d (sym f ∙ t)) in
-          record { short = R .short; classes-are = R .classes-are; tail-of = R .tail-of; lent = R .lent; stands = rw w S; deeps = shallow-deeps D I }
+          let p : d ≡ max c (lineDepth (labels host) o) = found-depth (labels host) o c e m d (sym f ∙ t) in
+          let D = deeps-more (R .deeps) g {q = bestOf (labels host) o} refl (found-best (labels host) o c e m d (sym f ∙ t)) i u v (twice c d (lineDepth (labels host) o) w p) refl in
+          record { short = R .short; classes-are = R .classes-are; lent = R .lent; stands = rw w S; deeps = shallow-deeps D I }
 
 pub ruleset block-laws = (block-starts, block-ends, block-more, needs)
 
-pub ruleset end-laws = (end-starts, end-out, end-short, end-here, end-more, needs)
+pub ruleset end-laws = (end-starts, end-out, end-lf, end-short, end-here, end-more, needs)
 
 pub ruleset skip-laws = (
   scan-end,
@@ -395,6 +444,10 @@ pub ruleset skip-laws = (
   skipped-comment,
   skipped-fits,
   skipped-less,
+  more-no,
+  more-yes,
+  deeper-short,
+  deeper-long,
   idle-match,
   idle-deep,
   idle-yes,

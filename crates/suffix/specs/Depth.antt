@@ -38,6 +38,11 @@ depthsOf host none = Wrong
 depthsOf host (some rules) =
     Found (maxLabels (filterBy (λ r. r .exception) (filterBy (matches host) rules))) (maxLabels (filterBy (matches host) rules)) (deepest host rules)
 
+-- the same with the larger of its depth and d
+unfoldable pub deepened : ℕ → Depths → Depths
+deepened d Wrong = Wrong
+deepened d (Found e m k) = Found e m (max d k)
+
 -- the line is none that makes the table bad
 pub record Good (line : Bytes) : Type 0 where
   pub is : isNone (readLine line) ≡ false
@@ -45,6 +50,10 @@ pub record Good (line : Bytes) : Type 0 where
 -- tail has the host's last label
 pub record Tail (host tail : Bytes) : Type 0 where
   pub is : labels tail ≡ lastOf 1 (labels host)
+
+-- tail has the host's last labels, one more than d, or all
+pub record Past (host tail : Bytes) (d : ℕ) : Type 0 where
+  pub is : labels tail ≡ lastOf (suc d) (labels host)
 
 -- a rule goes deeper than the label that there is
 unfoldable pub deeperThan : Bytes → Option Bytes → Bool

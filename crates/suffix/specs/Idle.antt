@@ -8,8 +8,9 @@ use Rattle.ascii.specs.Ascii.{Bytes, if_then_else_, takeWhile, lastOf, splitAt,
 use Rattle.suffix.specs.Host.{labels, isHost}
 use Rattle.suffix.specs.Place.{Stands}
 use Rattle.suffix.specs.Suffix.{readLines}
-use Rattle.suffix.specs.Pass.{bestOf, inLine, inContent}
+use Rattle.suffix.specs.Pass.{bestOf, joinBest, inLine, inContent}
 use Rattle.suffix.specs.Depth.{linesDepth}
+use Rattle.suffix.specs.declared.Best.the-variants.{Sizes}
 use Rattle.suffix.specs.declared.skips.Step.{Step}
 use Rattle.suffix.specs.declared.skips.Step.the-variants.{On, Off}
 use Rattle.suffix.specs.declared.skips.Stop.{Stop}
@@ -90,9 +91,9 @@ pub record Passes (kinds host table : Bytes) (d start from : ℕ) : Type 0 where
   pub inside : from ≤ length table + 1
   pub short : length table ≤ 1048576
 
--- the lines from one place to another find nothing but rules that go deeper than at most d labels
-pub record Shallow (host table : Bytes) (d from to : ℕ) : Type 0 where
+-- the lines from one place to another find nothing but rules of at most m labels, no exceptions, that go deeper than at most d
+pub record Shallow (host table : Bytes) (m d from to : ℕ) : Type 0 where
   pub onward : from ≤ to
   pub inside : to ≤ length table + 1
-  pub best : bestOf (labels host) (readLines (splitAt 10 (drop from table))) ≡ bestOf (labels host) (readLines (splitAt 10 (drop to table)))
+  pub best : joinBest (Sizes 0 m) (bestOf (labels host) (readLines (splitAt 10 (drop from table)))) ≡ joinBest (Sizes 0 m) (bestOf (labels host) (readLines (splitAt 10 (drop to table))))
   pub depth : max d (linesDepth (labels host) (splitAt 10 (drop from table))) ≡ max d (linesDepth (labels host) (splitAt 10 (drop to table)))

@@ -1,10 +1,10 @@
 // Lines of the table that find nothing for a host, passed over byte after byte.
 use crate::hosts;
 ghost use mathlib.Core.Path.{_≡_};
-ghost use mathlib.Core.Bool.{_||_, not};
+ghost use mathlib.Core.Bool.{_&&_, _||_, not};
 ghost use Prim.Native.Nat.{suc, _+_, _≤_, _<_, max};
 ghost use lib.ListN.{length, getD, drop};
-ghost use lib.Dec.{eqb};
+ghost use lib.Dec.{eqb, ltb};
 ghost use Rattle.ascii.specs.Ascii.{if_then_else_, takeWhile, lastOf};
 ghost use Rattle.ascii.specs.Class.{Classifies};
 ghost use Rattle.suffix.specs.Host.{labels};
@@ -207,7 +207,7 @@ pub(crate) fn short_end(s: &[u8], from: usize) -> usize
     i
 }
 
-// Where a line ends: its LF, or the end.
+// Where a line ends: its LF, or the end. The first byte alone before a block: many comments are empty.
 pub(crate) fn line_end(s: &[u8], from: usize) -> usize
     ensures { λ r. ⌜ r ≡ from + length (takeWhile inLine (drop from (now (s .entry)))) ⌝ }
 {
@@ -215,6 +215,9 @@ pub(crate) fn line_end(s: &[u8], from: usize) -> usize
     while i < s.len() {
         if s.len() - i < 64 {
             return short_end(s, i);
+        }
+        if s[i] == 10 {
+            return i;
         }
         let n = wide(end_in_block(s, i));
         if n < 64 {
@@ -261,14 +264,34 @@ fn skip_comments(s: &[u8], from: usize) -> usize
     at
 }
 
-// The host w is no end of the host, and the host's last labels no end of w.
-fn is_idle(host: &[u8], tail: &[u8], w: &[u8]) -> bool
-    ensures { λ r. ⌜ r ≡ not (endsAtLabel (now (w .entry)) (now (host .entry)) || endsAtLabel (now (tail .entry)) (now (w .entry))) ⌝ }
+// w is an end of the host of more labels than most.
+fn is_more(host: &[u8], most: usize, w: &[u8]) -> bool
+    ensures { λ r. ⌜ r ≡ (endsAtLabel (now (w .entry)) (now (host .entry)) && ltb most (length (labels (now (w .entry))))) ⌝ }
 {
     if hosts::ends_at_label(host, w) {
+        return most < hosts::label_count(w);
+    }
+    false
+}
+
+// w is longer than tail, and ends in it.
+fn is_deeper(tail: &[u8], w: &[u8]) -> bool
+    ensures { λ r. ⌜ r ≡ (ltb (length (now (tail .entry))) (length (now (w .entry))) && endsAtLabel (now (tail .entry)) (now (w .entry))) ⌝ }
+{
+    if tail.len() < w.len() {
+        return hosts::ends_at_label(w, tail);
+    }
+    false
+}
+
+// The host w is neither.
+fn is_idle(host: &[u8], tail: &[u8], most: usize, w: &[u8]) -> bool
+    ensures { λ r. ⌜ r ≡ not ((endsAtLabel (now (w .entry)) (now (host .entry)) && ltb most (length (labels (now (w .entry))))) || (ltb (length (now (tail .entry))) (length (now (w .entry))) && endsAtLabel (now (tail .entry)) (now (w .entry)))) ⌝ }
+{
+    if is_more(host, most, w) {
         return false;
     }
-    if hosts::ends_at_label(w, tail) {
+    if is_deeper(tail, w) {
         return false;
     }
     true
@@ -295,17 +318,19 @@ pub(crate) fn deeper_tail(host: &[u8], depth: usize, start: usize, d: usize) -> 
     start
 }
 
-// The first line that may match the host, or go deeper than more of its labels than the depth, whose labels and one more begin at last.
+// The first line that may match the host in more labels than most or be an exception, or go deeper than more of its labels than
+// the depth, whose labels and one more begin at last.
 pub(crate) fn idle_lines(
     kinds: &[u8; 256],
     host: &[u8],
+    most: usize,
     depth: usize,
     last: usize,
     s: &[u8],
     from: usize,
 ) -> usize
     requires { ⌜ Passes (now kinds) (now host) (now s) depth last from ⌝ }
-    ensures { λ r. ⌜ Shallow (now (host .entry)) (now (s .entry)) depth from r ⌝ }
+    ensures { λ r. ⌜ Shallow (now (host .entry)) (now (s .entry)) most depth from r ⌝ }
 {
     let tail = &host[last..];
     let mut at = from;
@@ -313,7 +338,7 @@ pub(crate) fn idle_lines(
         let found = plain_lines(kinds, host, s, at);
         match found {
             Stop::Host(start, to) => {
-                if is_idle(host, tail, &s[start..to]) {
+                if is_idle(host, tail, most, &s[start..to]) {
                     at = to + 1;
                 } else {
                     return start;

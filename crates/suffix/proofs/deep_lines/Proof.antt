@@ -7,10 +7,10 @@ use Rattle.suffix.proofs.deep_lines.Statement.{statement}
 use Rattle.suffix.proofs.deep_lines.Tie as tie
 
 abbrev Inv-loop : tie.InvT-loop
-Inv-loop classes kinds host tail last table exception₀ most₀ depth₀ start₀ at₀ exception most depth start at = Round classes kinds host tail table exception most depth start at
+Inv-loop classes kinds host last table exception₀ most₀ depth₀ start₀ at₀ exception most depth start at = Round classes kinds host table exception most depth start at
 
 abbrev μ-loop : tie.MeasureT-loop
-μ-loop classes kinds host tail last table exception₀ most₀ depth₀ start₀ at₀ exception most depth start at = length table - at
+μ-loop classes kinds host last table exception₀ most₀ depth₀ start₀ at₀ exception most depth start at = length table - at
 
 pub deep-lines-spec : {M : Type 1} → statement M
 deep-lines-spec =

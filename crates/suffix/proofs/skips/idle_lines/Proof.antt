@@ -7,10 +7,10 @@ use Rattle.suffix.proofs.skips.idle_lines.Statement.{statement}
 use Rattle.suffix.proofs.skips.idle_lines.Tie as tie
 
 abbrev Inv-loop : tie.InvT-loop
-Inv-loop kinds host depth last s from tail at₀ at = Shallow host s depth from at
+Inv-loop kinds host most depth last s from tail at₀ at = Shallow host s most depth from at
 
 abbrev μ-loop : tie.MeasureT-loop
-μ-loop kinds host depth last s from tail at₀ at = length s - at
+μ-loop kinds host most depth last s from tail at₀ at = length s - at
 
 pub idle-lines-spec : {M : Type 1} → statement M
 idle-lines-spec =

@@ -4,6 +4,4 @@ use Rattle.suffix.proofs.skips.is_idle.Statement.{statement}
 use Rattle.suffix.proofs.skips.is_idle.Tie as tie
 
 pub is-idle-spec : {M : Type 1} → statement M
-is-idle-spec =
-    tie.close
-    (tie.spec {- ends-at-label-requires -} (λ c κs. search skip-laws) {- returns -} (λ c. search skip-laws) {- ends-at-label-requires-2 -} (λ c κs. search skip-laws) {- returns-2 -} (λ c. search skip-laws) {- returns-3 -} (λ c. search skip-laws))
+is-idle-spec = tie.close (tie.spec {- is-more-requires -} (λ c κs. search skip-laws) {- returns -} (λ c. search skip-laws) {- is-deeper-requires -} (λ c κs. search skip-laws) {- returns-2 -} (λ c. search skip-laws) {- returns-3 -} (λ c. search skip-laws))
