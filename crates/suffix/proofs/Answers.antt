@@ -1,15 +1,15 @@
 -- From the numbers of the pass to the private label. Assumes nothing.
 use mathlib.Core.Path.{_≡_, refl, sym, ap, ap₂, _∙_}
 use mathlib.Core.Bool.{Bool, true, false, _&&_, _||_, not, and-eq-true-iff}
-use mathlib.Core.List.{List, [], _∷_, _++_, map}
+use mathlib.Core.List.{List, [], _∷_, _++_}
 use mathlib.Core.Option.{Option, none, some}
-use Prim.Native.Nat.{ℕ, zero, suc, _+_, _-_, _≤_, _<_, max}
+use Prim.Native.Nat.{ℕ, _+_, _-_, _≤_, _<_}
 use native.Mathlib.Omega.{arith}
 use lib.ListN.{length, take, drop, length-drop}
 use lib.Seq.{drop-length, take-all}
-use lib.Dec.{eqb, leb, ltb}
+use lib.Dec.{leb, ltb}
 use borrow.Author.Tests.{eq-eqb, ne-eqb, lt-leb, le-leb, lt-ltb, le-ltb, leb-true, ltb-true, ltb-false, not-true}
-use Rattle.ascii.specs.Ascii.{Bytes, if_then_else_, _>>=_, all, any, filterBy, isEmpty, splitAt, lastOf, joinWith, beginsWith, same, text}
+use Rattle.ascii.specs.Ascii.{Bytes, if_then_else_, _>>=_, all, filterBy, splitAt, lastOf, joinWith, beginsWith, same, text}
 use Rattle.suffix.specs.Host.{labels, isHost, isAddress}
 use Rattle.suffix.specs.Place.{Stands}
 use Rattle.suffix.specs.Suffix.{Rule, normal, exceptional, content, isSkipped, readRule, readLines, readTable, matches, longer, mostLabels, prevailing, suffixSize, publicSuffix, privateLabels, labelUnder, privateLabel}

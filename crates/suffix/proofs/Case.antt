@@ -1,16 +1,16 @@
 -- The private label does not depend on ASCII case.
 use mathlib.Core.Path.{_≡_, refl, sym, ap, ap₂, _∙_}
 use mathlib.Core.List.{List, [], _∷_, _++_, map, map-append}
-use mathlib.Core.Bool.{Bool, true, false, _&&_, _||_, not, and-eq-true-iff}
+use mathlib.Core.Bool.{Bool, true, false, _&&_, _||_, and-eq-true-iff}
 use mathlib.Core.Option.{Option, none, some, Option·map}
 use Prim.Native.Nat.{ℕ, zero, suc, _+_, _-_, _≤_, _<_}
 use native.Mathlib.Omega.{arith}
 use lib.ListN.{length, take, drop, length-map}
 use lib.Dec.{eqb, leb}
-use borrow.Author.Tests.{leb-true, leb-false, eqb-true, le-leb, lt-leb, ne-eqb}
-use Rattle.ascii.specs.Ascii.{Bytes, if_then_else_, _>>=_, between, all, filterBy, lastOf, joinHead, splitAt, prefixed, joinWith, isDigit, isUpper, isLetter, lowerByte, lower, same, sameNoCase, text}
+use borrow.Author.Tests.{leb-true, le-leb, lt-leb, ne-eqb}
+use Rattle.ascii.specs.Ascii.{Bytes, if_then_else_, _>>=_, all, filterBy, lastOf, joinHead, splitAt, prefixed, joinWith, isDigit, isUpper, isLetter, lowerByte, lower, same, sameNoCase, text}
 use Rattle.suffix.specs.Host.{labels, isLabelByte, isShaped, isLabel, isHost, isAddress}
-use Rattle.suffix.specs.Suffix.{Rule, nameMatches, allMatch, matches, suffixSize, publicSuffix, privateLabels, labelUnder, readTable, privateLabel}
+use Rattle.suffix.specs.Suffix.{Rule, nameMatches, allMatch, matches, publicSuffix, privateLabels, labelUnder, readTable, privateLabel}
 
 -- ---- one byte
 

@@ -1,8 +1,7 @@
 -- The eleven label cases of document 01, by computation.
 use mathlib.Core.Path.{_≡_, refl}
-use mathlib.Core.List.{List, [], _∷_}
-use mathlib.Core.Bool.{Bool, true, false}
-use mathlib.Core.Option.{Option, none, some}
+use mathlib.Core.List.{_∷_}
+use mathlib.Core.Option.{none, some}
 use Rattle.ascii.specs.Ascii.{Bytes, all, any, filterBy, takeWhile, lastOf, joinHead, splitAt, prefixed, joinWith, isDigit, isUpper, isLetter, lowerByte, lower, same, sameNoCase, beginsWith, text}
 use Rattle.suffix.specs.Host.{labels, isLabelByte, isShaped, isLabel, isHost, isAddress}
 use Rattle.suffix.specs.Suffix.{isBlank, content, isSkipped, readRule, readLines, readTable, nameMatches, allMatch, matches, mostLabels, prevailing, suffixSize, publicSuffix, privateLabels, labelUnder, privateLabel}

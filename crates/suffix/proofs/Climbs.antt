@@ -1,17 +1,16 @@
 -- How deep rules go along a host, and the pass of `label_found`. Assumes nothing.
 use mathlib.Core.Path.{_≡_, refl, sym, ap, ap₂, _∙_}
-use mathlib.Core.Bool.{Bool, true, false, _&&_, _||_, not, and-eq-true-iff}
-use mathlib.Core.List.{List, [], _∷_, _++_, map}
+use mathlib.Core.Bool.{Bool, true, false, _&&_, _||_, and-eq-true-iff}
+use mathlib.Core.List.{List, [], _∷_, _++_}
 use mathlib.Core.Option.{Option, none, some}
-use Prim.Native.Nat.{ℕ, zero, suc, _+_, _-_, _≤_, _<_, max}
+use Prim.Native.Nat.{ℕ, suc, _+_, _-_, _≤_, _<_, max}
 use native.Mathlib.Omega.{arith}
-use native.Mathlib.Numerals.{add-one}
 use lib.ListN.{length, take, drop, drop-of-length-le}
 use lib.Seq.{drop-length}
-use lib.Dec.{eqb, leb, ltb}
-use borrow.Author.Tests.{lt-leb, le-leb, lt-ltb, le-ltb, ltb-true, ltb-false, leb-true, leb-false}
+use lib.Dec.{leb, ltb}
+use borrow.Author.Tests.{lt-leb, le-leb, lt-ltb, ltb-true, ltb-false, leb-true, leb-false}
 use Rattle.ascii.specs.Ascii.{Bytes, if_then_else_, _>>=_, isNone, any, filterBy, takeWhile, lastOf, splitAt, joinWith, same, beginsWith}
-use Rattle.ascii.proofs.Scan.{scan-part, scan-from, scan-to}
+use Rattle.ascii.proofs.Scan.{scan-part}
 use Rattle.suffix.specs.Host.{labels, isHost, isAddress}
 use Rattle.suffix.specs.Place.{Stands, endsAtLabel}
 use Rattle.suffix.specs.Suffix.{Rule, normal, exceptional, content, isSkipped, readRule, readLines, readTable, allMatch, matches, privateLabel}

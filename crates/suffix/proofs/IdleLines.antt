@@ -1,27 +1,27 @@
 -- Lines that find nothing for a host. Assumes nothing.
 use mathlib.Core.Path.{_≡_, refl, sym, ap, _∙_}
-use mathlib.Core.Bool.{Bool, true, false, _&&_, _||_, not, and-eq-true-iff}
+use mathlib.Core.Bool.{Bool, true, false, _&&_, _||_, and-eq-true-iff}
 use mathlib.Core.List.{List, [], _∷_, map}
 use Prim.Native.Nat.{ℕ, zero, suc, _+_, _-_, _≤_, _<_, max}
 use native.Mathlib.Omega.{arith}
 use native.Mathlib.Numerals.{add-one}
-use lib.ListN.{length, getD, take, drop, length-drop, List·getD-map}
+use lib.ListN.{length, getD, drop, length-drop, List·getD-map}
 use lib.Seq.{drop-cons, getD-drop}
 use lib.Dec.{eqb, leb, ltb}
-use borrow.Author.Tests.{eq-eqb, ne-eqb, eqb-true, eqb-false, leb-true, le-ltb, ltb-false}
+use borrow.Author.Tests.{ne-eqb, eqb-true, leb-true, le-ltb, ltb-false}
 use Rattle.ascii.specs.Ascii.{Bytes, if_then_else_, takeWhile, lastOf, isUpper, lowerByte, lower, same, sameNoCase, splitAt, isDigit, isLetter, beginsWith}
 use Rattle.ascii.proofs.Scan.{scan-to}
 use Rattle.ascii.proofs.Split.{join-split}
 use Rattle.suffix.specs.Host.{labels, isLabelByte, isHost}
 use Rattle.suffix.specs.Place.{Stands, isBoundary, endsAtLabel}
-use Rattle.suffix.specs.Suffix.{normal, isBlank, isSkipped, readRule, readLines}
+use Rattle.suffix.specs.Suffix.{normal, isBlank, readRule, readLines}
 use Rattle.suffix.specs.Pass.{bestOf, joinBest, oneRule, readLine, inLine, inContent}
 use Rattle.suffix.specs.Depth.{lineDepth, linesDepth, Past}
 use Rattle.suffix.specs.Deeper.{goesDeeper}
 use Rattle.suffix.specs.declared.Best.{Best}
-use Rattle.suffix.specs.declared.Best.the-variants.{Bad, Sizes}
-use Rattle.suffix.specs.Idle.{Idle, Skipped, Shallow, lastByte, isPlain}
-use Rattle.suffix.proofs.Ends.{true-false, same-eq, labels-some, Begin, begin-labels, begin-is, ends-whole}
+use Rattle.suffix.specs.declared.Best.the-variants.{Sizes}
+use Rattle.suffix.specs.Idle.{Idle, Shallow, lastByte, isPlain}
+use Rattle.suffix.proofs.Ends.{true-false, same-eq, labels-some, begin-labels, begin-is, ends-whole}
 use Rattle.suffix.proofs.Shapes.{host-empty}
 use Rattle.suffix.proofs.Lines.{no-host, rule-host, host-yes, host-no, begins-is, other-read, line-empty, line-comment}
 use Rattle.suffix.proofs.Passes.{join-zero, join-join, lines-at, lines-on}

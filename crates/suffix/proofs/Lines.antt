@@ -1,9 +1,9 @@
 -- One line of the table: what it finds for a host. Assumes nothing.
 use mathlib.Core.Path.{_≡_, refl, sym, ap, ap₂, _∙_}
-use mathlib.Core.Bool.{Bool, true, false, _&&_, _||_, not, and-false, and-true, or-true, and-eq-true-iff}
-use mathlib.Core.List.{List, [], _∷_, _++_, map}
-use mathlib.Core.Option.{Option, none, some}
-use Prim.Native.Nat.{ℕ, zero, suc, _+_, _-_, _≤_, _<_, max}
+use mathlib.Core.Bool.{Bool, true, false, _&&_, _||_, and-false, or-true, and-eq-true-iff}
+use mathlib.Core.List.{List, [], _∷_, _++_}
+use mathlib.Core.Option.{none, some}
+use Prim.Native.Nat.{ℕ, suc, _+_, _-_, _≤_, _<_, max}
 use native.Mathlib.Omega.{arith}
 use native.Mathlib.Numerals.{add-one}
 use mir.Val.{Fits}
@@ -12,10 +12,10 @@ use lib.ListN.{length, take, drop}
 use lib.Seq.{take-all}
 use lib.ListN.{length-drop, length-append}
 use lib.Dec.{eqb, leb, ltb}
-use borrow.Author.Tests.{eq-eqb, ne-eqb, eqb-true, eqb-false, lt-leb, le-leb, leb-true, leb-false, ltb-true, ltb-false}
-use Rattle.ascii.specs.Ascii.{Bytes, if_then_else_, _>>=_, all, filterBy, lastOf, isEmpty, joinHead, splitAt, isDigit, isLetter, isUpper, same, beginsWith, text}
+use borrow.Author.Tests.{eqb-true, lt-leb, le-leb, ltb-true, ltb-false}
+use Rattle.ascii.specs.Ascii.{Bytes, if_then_else_, _>>=_, all, filterBy, lastOf, joinHead, splitAt, isDigit, isLetter, isUpper, same, beginsWith}
 use Rattle.ascii.proofs.Split.{split-parts, split-other}
-use Rattle.suffix.specs.Host.{labels, isLabelByte, isShaped, isLabel, isHost}
+use Rattle.suffix.specs.Host.{labels, isLabelByte, isLabel, isHost}
 use Rattle.suffix.specs.Place.{endsAtLabel}
 use Rattle.suffix.specs.Suffix.{Rule, normal, exceptional, isSkipped, readRule, nameMatches, allMatch, matches}
 use Rattle.suffix.specs.Pass.{maxLabels, sizes, bestOf, oneRule, readLine}

@@ -1,16 +1,16 @@
 -- A line is a host where each of its bytes may stand behind the byte before it. Assumes nothing.
 use mathlib.Core.Path.{_≡_, refl, sym, ap, _∙_}
-use mathlib.Core.Bool.{Bool, true, false, _&&_, _||_, not, and-true, or-true, and-eq-true-iff}
-use mathlib.Core.List.{List, [], _∷_, _++_}
-use Prim.Native.Nat.{ℕ, zero, suc, _+_, _-_, _≤_, _<_}
+use mathlib.Core.Bool.{Bool, true, false, _&&_, _||_, or-true, and-eq-true-iff}
+use mathlib.Core.List.{[], _∷_, _++_}
+use Prim.Native.Nat.{ℕ, suc, _+_, _-_, _≤_, _<_}
 use native.Mathlib.Omega.{arith}
 use lib.ListN.{length, getD, length-append, List·getD-append}
 use lib.Seq.{append-snoc, getD-at}
-use lib.Dec.{eqb, leb, ltb}
+use lib.Dec.{eqb, ltb}
 use borrow.Author.Tests.{eq-eqb, ne-eqb, eqb-true, eqb-false, lt-leb, le-leb, ltb-true, ltb-false}
 use Rattle.ascii.specs.Ascii.{Bytes, if_then_else_, all, takeWhile, joinHead, splitAt, isDigit, isLetter, isUpper}
-use Rattle.ascii.proofs.Split.{Parts, split-parts, split-other, onFirst, on-first-end, on-first-here}
-use Rattle.suffix.specs.Host.{labels, isLabelByte, isShaped, isLabel, isHost}
+use Rattle.ascii.proofs.Split.{split-parts, split-other, onFirst, on-first-end, on-first-here}
+use Rattle.suffix.specs.Host.{labels, isLabelByte, isLabel, isHost}
 use Rattle.suffix.specs.Pass.{inLine, inContent}
 use Rattle.suffix.specs.Idle.{isPlain}
 use Rattle.suffix.proofs.Ends.{true-false}

@@ -5,22 +5,21 @@ use mathlib.Core.List.{List, [], _∷_}
 use mathlib.Core.Option.{Option, none, some}
 use Prim.Native.Nat.{ℕ, zero, suc, _+_, _-_, _≤_, _<_, max}
 use native.Mathlib.Omega.{arith}
-use native.Mathlib.Numerals.{add-one}
 use mir.Val.{Fits}
 use mir.Syntax.{w64}
 use lib.ListN.{length, getD, take, drop, length-drop}
-use lib.Seq.{drop-cons, drop-drop, drop-nil}
+use lib.Seq.{drop-cons, drop-drop}
 use lib.Dec.{eqb, ltb}
 use borrow.Author.Needs.{needs}
 use borrow.Author.Tests.{eq-eqb, ne-eqb, eqb-true, eqb-false, lt-ltb, le-ltb}
 use Rattle.ascii.specs.Ascii.{Bytes, if_then_else_, filterBy, takeWhile, lastOf, splitAt}
 use Rattle.ascii.specs.Class.{Classifies}
 use Rattle.ascii.proofs.Scan.{scan-end, scan-stop, scan-more, scan-from, scan-to}
-use Rattle.suffix.specs.Host.{labels, isHost}
+use Rattle.suffix.specs.Host.{labels}
 use Rattle.suffix.specs.Place.{Stands, endsAtLabel}
 use Rattle.suffix.specs.Suffix.{Rule, readLines, readTable, matches}
 use Rattle.suffix.specs.Pass.{maxLabels, sizes, bestOf, joinBest, readLine, inLine, inContent}
-use Rattle.suffix.specs.Depth.{deepest, lineDepth, linesDepth, depthsOf, deepened}
+use Rattle.suffix.specs.Depth.{deepest, lineDepth, depthsOf, deepened}
 use Rattle.suffix.specs.Idle.{Idle, Skipped, blockEnd, lfAt, lesser, KindsOf, HostLine, Stopped, at-host, at-other, Passes, Shallow}
 use Rattle.suffix.specs.declared.Best.{Best}
 use Rattle.suffix.specs.declared.Best.the-variants.{Bad, Sizes}
@@ -28,7 +27,7 @@ use Rattle.suffix.specs.declared.Depths.{Depths}
 use Rattle.suffix.specs.declared.Depths.the-variants.{Wrong, Found}
 use Rattle.suffix.specs.declared.skips.Stop.{Stop}
 use Rattle.suffix.specs.declared.skips.Stop.the-variants.{Host, Other}
-use Rattle.suffix.proofs.Passes.{line-lf, line-other, join-join, Pass, pass-fits}
+use Rattle.suffix.proofs.Passes.{line-lf, line-other, join-join, pass-fits}
 use Rattle.suffix.proofs.Climbs.{Deeps, deeps-starts, deeps-more, deeps-bad, deeps-ends, past-is, wrong-best}
 use Rattle.suffix.proofs.IdleLines.{idle-none, idle-on, idle-empty, idle-comment, tail-more, tail-whole, brings-to, shallow-line, shallow-of, shallow-on}
 

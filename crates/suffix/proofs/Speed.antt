@@ -1,5 +1,5 @@
 -- Where no rule goes deeper than the label of one host, a host has that label exactly where it ends in it. Assumes nothing.
-use mathlib.Core.Path.{_≡_, refl, sym, ap, ap₂, _∙_}
+use mathlib.Core.Path.{_≡_, refl, sym, ap, _∙_}
 use mathlib.Core.Bool.{Bool, true, false, _&&_, _||_, and-eq-true-iff}
 use mathlib.Core.List.{List, [], _∷_, map}
 use mathlib.Core.Option.{Option, none, some}
@@ -7,16 +7,16 @@ use Prim.Native.Nat.{ℕ, zero, suc, _+_, _-_, _≤_, _<_}
 use native.Mathlib.Omega.{arith}
 use lib.ListN.{length, drop, length-drop, length-map}
 use lib.Seq.{drop-drop}
-use lib.Dec.{leb, ltb}
-use borrow.Author.Tests.{lt-ltb, ltb-true, ltb-false, lt-leb, le-leb, leb-true, leb-false}
-use Rattle.ascii.specs.Ascii.{Bytes, if_then_else_, _>>=_, between, all, any, filterBy, lastOf, splitAt, joinWith, isDigit, lower, same, sameNoCase}
+use lib.Dec.{leb}
+use borrow.Author.Tests.{lt-ltb, lt-leb, le-leb, leb-true, leb-false}
+use Rattle.ascii.specs.Ascii.{Bytes, if_then_else_, _>>=_, between, all, any, filterBy, lastOf, splitAt, joinWith, isDigit, lower, sameNoCase}
 use Rattle.ascii.proofs.Split.{join-split}
 use Rattle.suffix.specs.Host.{labels, isLabel, isHost, isAddress}
 use Rattle.suffix.specs.Place.{endsAtLabel}
 use Rattle.suffix.specs.Suffix.{Rule, normal, nameMatches, allMatch, matches, prevailing, suffixSize, publicSuffix, privateLabels, labelUnder, readTable, privateLabel}
 use Rattle.suffix.specs.Deeper.{goesDeeper, deeperIn, isDeeper, isTheLabel}
-use Rattle.suffix.proofs.Case.{last-map, drop-map, all-match, is-address, labels-lower}
-use Rattle.suffix.proofs.Ends.{Alike, both-ways, true-false, same-eq, same-refl, all-equal, all-matching, labels-some, Begin, begin-labels, begin-is, names-lower, lower-names, ends-match, match-ends}
+use Rattle.suffix.proofs.Case.{last-map, all-match, is-address}
+use Rattle.suffix.proofs.Ends.{Alike, both-ways, true-false, same-eq, same-refl, all-equal, all-matching, labels-some, begin-labels, begin-is, names-lower, lower-names, ends-match, match-ends}
 
 -- ---- lists of labels, without regard to case
 

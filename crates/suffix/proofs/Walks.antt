@@ -1,8 +1,8 @@
 -- The loop over the bytes of lines that find nothing. Assumes nothing.
 use mathlib.Core.Path.{_≡_, refl, sym, ap, _∙_}
-use mathlib.Core.Bool.{Bool, true, false, _&&_, _||_, or-true, and-true, and-eq-true-iff}
-use mathlib.Core.List.{List, [], _∷_}
-use Prim.Native.Nat.{ℕ, zero, suc, _+_, _-_, _*_, _≤_, _<_}
+use mathlib.Core.Bool.{Bool, true, false, _&&_, _||_, or-true}
+use mathlib.Core.List.{_∷_}
+use Prim.Native.Nat.{ℕ, suc, _+_, _-_, _*_, _≤_, _<_}
 use native.Mathlib.Omega.{arith}
 use native.Mathlib.Numerals.{add-one}
 use native.Mathlib.Nat.{add-zero}
@@ -14,15 +14,15 @@ use borrow.Author.Needs.{needs}
 use borrow.Author.Tests.{eq-eqb, ne-eqb, eqb-true, eqb-false, lt-ltb, le-ltb, ltb-true, leb-true}
 use Rattle.ascii.specs.Ascii.{Bytes, if_then_else_, takeWhile, lowerByte}
 use Rattle.ascii.proofs.Scan.{scan-part}
-use Rattle.suffix.specs.Host.{labels, isHost}
-use Rattle.suffix.specs.Pass.{readLine, inLine, inContent}
+use Rattle.suffix.specs.Host.{labels}
+use Rattle.suffix.specs.Pass.{readLine, inLine}
 use Rattle.suffix.specs.Depth.{lineDepth}
 use Rattle.suffix.specs.Idle.{Idle, lastByte, isPlain, kindOf, KindsOf, stepOf, stopOf, HostLine, Stopped, at-host, at-other}
 use Rattle.suffix.specs.declared.skips.Step.{Step}
 use Rattle.suffix.specs.declared.skips.Step.the-variants.{On, Off}
 use Rattle.suffix.specs.declared.skips.Stop.{Stop}
 use Rattle.suffix.specs.declared.skips.Stop.the-variants.{Host, Other}
-use Rattle.suffix.proofs.Passes.{line-lf, line-other}
+use Rattle.suffix.proofs.Passes.{line-other}
 use Rattle.suffix.proofs.KindLaws.{kind-lf}
 use Rattle.suffix.proofs.PlainHosts.{no-plain, lf-plain, mayFollow, shapeFrom, shape-content, shape-host}
 use Rattle.suffix.proofs.IdleLines.{idle-none, idle-on, idle-line, FindsTo, finds-unlike}

@@ -1,7 +1,7 @@
 -- How deep the rules of a table go along a host's last labels: what one pass needs to know, beside the sizes, of deeper rules.
 use mathlib.Core.Path.{_≡_}
 use mathlib.Core.List.{List, [], _∷_}
-use mathlib.Core.Bool.{Bool, true, false}
+use mathlib.Core.Bool.{Bool, false}
 use mathlib.Core.Option.{Option, none, some}
 use Prim.Native.Nat.{ℕ, suc, max}
 use lib.ListN.{length}
@@ -46,10 +46,6 @@ deepened d (Found e m k) = Found e m (max d k)
 -- the line is none that makes the table bad
 pub record Good (line : Bytes) : Type 0 where
   pub is : isNone (readLine line) ≡ false
-
--- tail has the host's last label
-pub record Tail (host tail : Bytes) : Type 0 where
-  pub is : labels tail ≡ lastOf 1 (labels host)
 
 -- tail has the host's last labels, one more than d, or all
 pub record Past (host tail : Bytes) (d : ℕ) : Type 0 where

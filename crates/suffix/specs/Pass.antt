@@ -1,7 +1,7 @@
 -- What one pass over the table finds for a host: the most labels of a matching exception, and of any matching rule.
 use mathlib.Core.Path.{_≡_}
 use mathlib.Core.List.{List, [], _∷_}
-use mathlib.Core.Bool.{Bool, true, false, _&&_, _||_, not}
+use mathlib.Core.Bool.{Bool, _&&_, _||_, not}
 use mathlib.Core.Option.{Option, none, some}
 use Prim.Native.Nat.{ℕ, _-_, _≤_, max}
 use Prim.Native.Char.{code}
