@@ -66,6 +66,9 @@ pub fn tables() -> Vec<Table> {
         Table::full("near", "a mebibyte of rules beside the AppID's label, `m.com`", |_| {
             "m.com\n".to_owned()
         }),
+        Table::full("general", "a mebibyte of the rule `*`, which goes the general way", |_| {
+            "*\n".to_owned()
+        }),
         Table::full("deeper", "a mebibyte of rules that go deeper than the AppID's label", |n| {
             format!("x{n:05}.example.com\n")
         }),
