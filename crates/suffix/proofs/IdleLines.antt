@@ -20,7 +20,7 @@ use Rattle.suffix.specs.Depth.{lineDepth, linesDepth, Past}
 use Rattle.suffix.specs.Deeper.{goesDeeper}
 use Rattle.suffix.specs.declared.Best.{Best}
 use Rattle.suffix.specs.declared.Best.the-variants.{Sizes}
-use Rattle.suffix.specs.Idle.{Idle, Shallow, lastByte, isPlain}
+use Rattle.suffix.specs.Idle.{Idle, Shallow, lastByte, isAlphanumeric}
 use Rattle.suffix.proofs.Ends.{true-false, same-eq, labels-some, begin-labels, begin-is, ends-whole}
 use Rattle.suffix.proofs.Shapes.{host-empty}
 use Rattle.suffix.proofs.Lines.{no-host, rule-host, host-yes, host-no, begins-is, other-read, line-empty, line-comment}
@@ -190,7 +190,7 @@ none-of : (b : Bool) → (b ≡ true → ⊥) → b ≡ false
 none-of true n = absurd (n refl)
 none-of false n = refl
 
-pub finds-unlike : (host w : Bytes) → isHost w ≡ true → isPlain (lastByte w) ≡ true → (lowerByte (lastByte w) ≡ lowerByte (lastByte host) → ⊥) → FindsTo host w 0
+pub finds-unlike : (host w : Bytes) → isHost w ≡ true → isAlphanumeric (lastByte w) ≡ true → (lowerByte (lastByte w) ≡ lowerByte (lastByte host) → ⊥) → FindsTo host w 0
 finds-unlike host w h p n =
     let E = ending host in
     finds-to host (E .tail) w 0 h (E .is) (none-of (endsAtLabel w host) (λ e. n (ends-last w host some e))) (none-of (endsAtLabel (E .tail) w) (apart (E .tail) (E .last)))

@@ -12,7 +12,7 @@ use borrow.Author.Tests.{eq-eqb, ne-eqb, eqb-true, eqb-false, lt-leb, le-leb, lt
 use Rattle.ascii.specs.Ascii.{Bytes, if_then_else_, isDigit, isLetter, isUpper, lowerByte}
 use Rattle.ascii.specs.Class.{classOf, Classifies}
 use Rattle.ascii.proofs.Bytes.{agree}
-use Rattle.suffix.specs.Idle.{lastByte, isPlain, kindOf, KindsOf, stepOf, stopOf}
+use Rattle.suffix.specs.Idle.{lastByte, isAlphanumeric, kindOf, KindsOf, stepOf, stopOf}
 use Rattle.suffix.specs.declared.skips.Step.the-variants.{On, Off}
 use Rattle.suffix.specs.declared.skips.Stop.the-variants.{Host, Other}
 
@@ -27,9 +27,9 @@ last-some s = refl
 -- ---- the kind of a byte
 
 -- the classes 0 and 1 are letters and digits
-plain-class : (table : Bytes) (b : ℕ) → Classifies table → b < 256 → ltb (getD table b 0) 2 ≡ isPlain b
-unfolding classOf isLetter isUpper isDigit isPlain
-plain-class table b C h = rw (C .is b h) (agree (λ k. ltb (classOf k) 2) isPlain tt b h)
+plain-class : (table : Bytes) (b : ℕ) → Classifies table → b < 256 → ltb (getD table b 0) 2 ≡ isAlphanumeric b
+unfolding classOf isLetter isUpper isDigit isAlphanumeric
+plain-class table b C h = rw (C .is b h) (agree (λ k. ltb (classOf k) 2) isAlphanumeric tt b h)
 
 module _ (table : Bytes) (last b : ℕ) (C : Classifies table) (h : b < 256) where
   module _ (l : getD table b 0 < 2) {r : Bool} (t : r ≡ eqb (lowerByte b) (lowerByte last)) where
@@ -45,23 +45,23 @@ module _ (table : Bytes) (last b : ℕ) (C : Classifies table) (h : b < 256) whe
   unfolding kindOf
   kind-rest l m n o = rw (← plain-class table b C h, le-ltb (getD table b 0) 2 l, ne-eqb b 45 m, ne-eqb b 46 n, ne-eqb b 10 o)
 
-kind-at : (last b c : ℕ) → b ≡ c → isPlain c ≡ false → kindOf last c ≡ kindOf last b
+kind-at : (last b c : ℕ) → b ≡ c → isAlphanumeric c ≡ false → kindOf last c ≡ kindOf last b
 kind-at last b c e p = rw e
 
 pub kind-hyphen : (last b : ℕ) → b ≡ 45 → 6 ≡ kindOf last b
-unfolding kindOf isPlain isLetter isUpper isDigit
+unfolding kindOf isAlphanumeric isLetter isUpper isDigit
 kind-hyphen last b e = kind-at last b 45 e refl
 
 pub kind-dot : (last b : ℕ) → b ≡ 46 → 7 ≡ kindOf last b
-unfolding kindOf isPlain isLetter isUpper isDigit
+unfolding kindOf isAlphanumeric isLetter isUpper isDigit
 kind-dot last b e = kind-at last b 46 e refl
 
 pub kind-lf : (last b : ℕ) → b ≡ 10 → 8 ≡ kindOf last b
-unfolding kindOf isPlain isLetter isUpper isDigit
+unfolding kindOf isAlphanumeric isLetter isUpper isDigit
 kind-lf last b e = kind-at last b 10 e refl
 
 kind-high : (last b : ℕ) → 256 ≤ b → 9 ≡ kindOf last b
-unfolding kindOf isPlain isLetter isUpper isDigit
+unfolding kindOf isAlphanumeric isLetter isUpper isDigit
 kind-high last b h =
     let u : b ≡ 45 → ⊥ = λ z. omega arith in
     let v : b ≡ 46 → ⊥ = λ z. omega arith in

@@ -12,59 +12,59 @@ use Rattle.ascii.specs.Ascii.{Bytes, if_then_else_, all, takeWhile, joinHead, s
 use Rattle.ascii.proofs.Split.{split-parts, split-other, onFirst, on-first-end, on-first-here}
 use Rattle.suffix.specs.Host.{labels, isLabelByte, isLabel, isHost}
 use Rattle.suffix.specs.Pass.{inLine, inContent}
-use Rattle.suffix.specs.Idle.{isPlain}
+use Rattle.suffix.specs.Idle.{isAlphanumeric}
 use Rattle.suffix.proofs.Ends.{true-false}
 use Rattle.suffix.proofs.Shapes.{shape-only, shaped-yes}
 use Rattle.suffix.proofs.Passes.{line-lf, line-other, content-lf, content-high}
 
 -- b may stand behind a; LF is the byte before the first
 unfoldable pub mayFollow : ℕ → ℕ → Bool
-mayFollow a b = if isPlain b then true else if eqb b 45 then (isPlain a || eqb a 45) else if eqb b 46 then isPlain a else false
+mayFollow a b = if isAlphanumeric b then true else if eqb b 45 then (isAlphanumeric a || eqb a 45) else if eqb b 46 then isAlphanumeric a else false
 
 -- so do the bytes behind a, up to an LF, and the last of them is a letter or digit
 unfoldable pub shapeFrom : ℕ → Bytes → Bool
-shapeFrom a [] = isPlain a
-shapeFrom a (b ∷ l) = if eqb b 10 then isPlain a else (mayFollow a b && shapeFrom b l)
+shapeFrom a [] = isAlphanumeric a
+shapeFrom a (b ∷ l) = if eqb b 10 then isAlphanumeric a else (mayFollow a b && shapeFrom b l)
 
 -- ---- bytes
 
-plain-label : (b : ℕ) → isPlain b ≡ true → isLabelByte b ≡ true
-unfolding isPlain isLabelByte
+plain-label : (b : ℕ) → isAlphanumeric b ≡ true → isLabelByte b ≡ true
+unfolding isAlphanumeric isLabelByte
 plain-label b e = rw e
 
-pub no-plain : {A : Type 0} (b c : ℕ) → isPlain b ≡ true → b ≡ c → isPlain c ≡ false → A
-no-plain b c p e n = true-false (sym p ∙ ap isPlain e ∙ n)
+pub no-plain : {A : Type 0} (b c : ℕ) → isAlphanumeric b ≡ true → b ≡ c → isAlphanumeric c ≡ false → A
+no-plain b c p e n = true-false (sym p ∙ ap isAlphanumeric e ∙ n)
 
-hyphen-plain : isPlain 45 ≡ false
-unfolding isPlain isLetter isUpper isDigit
+hyphen-plain : isAlphanumeric 45 ≡ false
+unfolding isAlphanumeric isLetter isUpper isDigit
 hyphen-plain = refl
 
-pub dot-plain : isPlain 46 ≡ false
-unfolding isPlain isLetter isUpper isDigit
+pub dot-plain : isAlphanumeric 46 ≡ false
+unfolding isAlphanumeric isLetter isUpper isDigit
 dot-plain = refl
 
-pub lf-plain : isPlain 10 ≡ false
-unfolding isPlain isLetter isUpper isDigit
+pub lf-plain : isAlphanumeric 10 ≡ false
+unfolding isAlphanumeric isLetter isUpper isDigit
 lf-plain = refl
 
 hyphen-label : (b : ℕ) → b ≡ 45 → isLabelByte b ≡ true
 unfolding isLabelByte
 hyphen-label b e = rw (eq-eqb b 45 e, or-true)
 
-low-plain : (b : ℕ) → b ≤ 32 → isPlain b ≡ false
-unfolding isPlain isLetter isUpper isDigit
+low-plain : (b : ℕ) → b ≤ 32 → isAlphanumeric b ≡ false
+unfolding isAlphanumeric isLetter isUpper isDigit
 low-plain b h = rw (lt-leb 97 b (omega arith), lt-leb 65 b (omega arith), lt-leb 48 b (omega arith))
 
 data Follows (a b : ℕ) : Type 0 where
-  as-plain : isPlain b ≡ true → Follows a b
-  as-hyphen : b ≡ 45 → (isPlain a || eqb a 45) ≡ true → Follows a b
-  as-dot : b ≡ 46 → isPlain a ≡ true → Follows a b
+  as-plain : isAlphanumeric b ≡ true → Follows a b
+  as-hyphen : b ≡ 45 → (isAlphanumeric a || eqb a 45) ≡ true → Follows a b
+  as-dot : b ≡ 46 → isAlphanumeric a ≡ true → Follows a b
 
 follows : (a b : ℕ) → mayFollow a b ≡ true → Follows a b
 unfolding mayFollow
-follows a b h = go (isPlain b) (eqb b 45) (eqb b 46) refl refl refl h
+follows a b h = go (isAlphanumeric b) (eqb b 45) (eqb b 46) refl refl refl h
   where
-    go : (u v w : Bool) → isPlain b ≡ u → eqb b 45 ≡ v → eqb b 46 ≡ w → (if u then true else if v then (isPlain a || eqb a 45) else if w then isPlain a else false) ≡ true → Follows a b
+    go : (u v w : Bool) → isAlphanumeric b ≡ u → eqb b 45 ≡ v → eqb b 46 ≡ w → (if u then true else if v then (isAlphanumeric a || eqb a 45) else if w then isAlphanumeric a else false) ≡ true → Follows a b
     go true v w e f g h = as-plain e
     go false true w e f g h = as-hyphen (eqb-true b 45 f) h
     go false false true e f g h = as-dot (eqb-true b 46 g) h
@@ -79,7 +79,7 @@ follows-high a b (as-plain p) = go (ltb 32 b) refl
 follows-high a b (as-hyphen e f) = omega arith
 follows-high a b (as-dot e f) = omega arith
 
-dot-behind : (a b : ℕ) → Follows a b → b ≡ 46 → isPlain a ≡ true
+dot-behind : (a b : ℕ) → Follows a b → b ≡ 46 → isAlphanumeric a ≡ true
 dot-behind a b (as-plain p) e = no-plain b 46 p e dot-plain
 dot-behind a b (as-hyphen f g) e = absurd (omega arith)
 dot-behind a b (as-dot f g) e = g
@@ -87,10 +87,10 @@ dot-behind a b (as-dot f g) e = g
 -- ---- the label that a place stands in: q of its bytes are read, the last of them is a
 
 data Begun : Bytes → ℕ → Type 0 where
-  fresh : {a : ℕ} → isPlain a ≡ false → (a ≡ 45 → ⊥) → Begun [] a
+  fresh : {a : ℕ} → isAlphanumeric a ≡ false → (a ≡ 45 → ⊥) → Begun [] a
   begun : {q : Bytes} {a : ℕ} → all isLabelByte q ≡ true → 1 ≤ length q → (getD q 0 0 ≡ 45 → ⊥) → getD q (length q - 1) 0 ≡ a → Begun q a
 
-label-done : (q : Bytes) (a : ℕ) → Begun q a → isPlain a ≡ true → length q ≤ 63 → isLabel q ≡ true
+label-done : (q : Bytes) (a : ℕ) → Begun q a → isAlphanumeric a ≡ true → length q ≤ 63 → isLabel q ≡ true
 label-done q a (fresh e n) p l = true-false (sym p ∙ e)
 label-done q a (begun y o f z) p l = shape-only q y ∙ sym (shaped-yes q o l f (λ e. no-plain a 45 p (sym z ∙ e) hyphen-plain))
 
@@ -141,12 +141,12 @@ shape-labels (b ∷ l) q a B m h = go (eqb b 10) refl m h (shape-labels l)
         → (u : Bool) → eqb b 46 ≡ u → all isLabel (onFirst q (splitAt 46 (b ∷ t))) ≡ true
     on t m F ih true e =
         let z : b ≡ 46 = eqb-true b 46 e in
-        rw z (all-more q t (label-done q a B (dot-behind a b F z) (omega arith)) (ih [] (fresh (ap isPlain z ∙ dot-plain) (λ y. omega arith)) (omega arith)))
+        rw z (all-more q t (label-done q a B (dot-behind a b F z) (omega arith)) (ih [] (fresh (ap isAlphanumeric z ∙ dot-plain) (λ y. omega arith)) (omega arith)))
     on t m F ih false e =
         let n : b ≡ 46 → ⊥ = eqb-false b 46 e in
         rw (on-first-snoc 46 b q t n) (ih (q ++ b ∷ []) (label-on q a b B F n) (omega (arith, length-append q (b ∷ []))))
 
-    go : (u : Bool) → eqb b 10 ≡ u → length q + length (if inLine b then b ∷ takeWhile inLine l else []) ≤ 63 → (if u then isPlain a else (mayFollow a b && shapeFrom b l)) ≡ true
+    go : (u : Bool) → eqb b 10 ≡ u → length q + length (if inLine b then b ∷ takeWhile inLine l else []) ≤ 63 → (if u then isAlphanumeric a else (mayFollow a b && shapeFrom b l)) ≡ true
         → ((q : Bytes) (a : ℕ) → Begun q a → length q + length (takeWhile inLine l) ≤ 63 → shapeFrom a l ≡ true → Labels q l)
         → all isLabel (onFirst q (splitAt 46 (if inLine b then b ∷ takeWhile inLine l else []))) ≡ true
     go true e m h ih = rw (← line-lf b (eqb-true b 10 e)) (all-one q (label-done q a B h (omega arith)))
@@ -161,7 +161,7 @@ unfolding takeWhile shapeFrom
 shape-content [] a h = refl
 shape-content (b ∷ l) a h = go (eqb b 10) refl h (shape-content l b)
   where
-    go : (u : Bool) → eqb b 10 ≡ u → (if u then isPlain a else (mayFollow a b && shapeFrom b l)) ≡ true → (shapeFrom b l ≡ true → takeWhile inContent l ≡ takeWhile inLine l)
+    go : (u : Bool) → eqb b 10 ≡ u → (if u then isAlphanumeric a else (mayFollow a b && shapeFrom b l)) ≡ true → (shapeFrom b l ≡ true → takeWhile inContent l ≡ takeWhile inLine l)
         → (if inContent b then b ∷ takeWhile inContent l else []) ≡ (if inLine b then b ∷ takeWhile inLine l else [])
     go true e h ih = rw (← line-lf b (eqb-true b 10 e), ← content-lf b (eqb-true b 10 e))
     go false e h ih =
@@ -173,7 +173,7 @@ unfolding takeWhile shapeFrom
 shape-some [] h = true-false (sym h ∙ lf-plain)
 shape-some (b ∷ l) h = go (eqb b 10) refl h
   where
-    go : (u : Bool) → eqb b 10 ≡ u → (if u then isPlain 10 else (mayFollow 10 b && shapeFrom b l)) ≡ true → 1 ≤ length (if inLine b then b ∷ takeWhile inLine l else [])
+    go : (u : Bool) → eqb b 10 ≡ u → (if u then isAlphanumeric 10 else (mayFollow 10 b && shapeFrom b l)) ≡ true → 1 ≤ length (if inLine b then b ∷ takeWhile inLine l else [])
     go true e h = true-false (sym h ∙ lf-plain)
     go false e h = rw (← line-other b (eqb-false b 10 e)) (omega arith)
 

@@ -3,7 +3,7 @@ use mathlib.Core.Path.{_≡_, refl, sym, ap, ap₂, _∙_}
 use mathlib.Core.Bool.{Bool, true, false, _&&_, _||_, not, or-true}
 use mathlib.Core.List.{List, [], _∷_}
 use mathlib.Core.Option.{Option, none, some}
-use Prim.Native.Nat.{ℕ, zero, suc, _+_, _-_, _≤_, _<_, max}
+use Prim.Native.Nat.{ℕ, zero, suc, _+_, _-_, _≤_, _<_, max, min}
 use native.Mathlib.Omega.{arith}
 use mir.Val.{Fits}
 use mir.Syntax.{w64}
@@ -20,7 +20,7 @@ use Rattle.suffix.specs.Place.{Stands, endsAtLabel}
 use Rattle.suffix.specs.Suffix.{Rule, readLines, readTable, matches}
 use Rattle.suffix.specs.Pass.{maxLabels, sizes, bestOf, joinBest, readLine, inLine, inContent}
 use Rattle.suffix.specs.Depth.{deepest, lineDepth, depthsOf, deepened}
-use Rattle.suffix.specs.Idle.{Idle, Skipped, blockEnd, lfAt, lesser, KindsOf, HostLine, Stopped, at-host, at-other, Passes, Shallow}
+use Rattle.suffix.specs.Idle.{Idle, Skipped, blockEnd, lfAt, KindsOf, HostLine, Stopped, at-host, at-other, Passes, Shallow}
 use Rattle.suffix.specs.declared.Best.{Best}
 use Rattle.suffix.specs.declared.Best.the-variants.{Bad, Sizes}
 use Rattle.suffix.specs.declared.Depths.{Depths}
@@ -41,13 +41,11 @@ pub lf-none : (k b : ℕ) → (b ≡ 10 → ⊥) → 64 ≡ lfAt k b
 unfolding lfAt
 lf-none k b n = rw (ne-eqb b 10 n)
 
-pub lesser-first : (a b : ℕ) → a < b → a ≡ lesser a b
-unfolding lesser
-lesser-first a b h = rw (lt-ltb a b h)
+pub lesser-first : (a b : ℕ) → a < b → a ≡ min a b
+lesser-first a b h = omega arith
 
-pub lesser-second : (a b : ℕ) → b ≤ a → b ≡ lesser a b
-unfolding lesser
-lesser-second a b h = rw (le-ltb a b h)
+pub lesser-second : (a b : ℕ) → b ≤ a → b ≡ min a b
+lesser-second a b h = omega arith
 
 -- the end is found before k, or the bytes before k go on
 pub data Seen (w : ℕ) (l : Bytes) (k : ℕ) : ℕ → Type 0 where
@@ -67,8 +65,8 @@ unfolding takeWhile
 seen-ends (seen h e) f = e
 seen-ends {k = k} (unseen e) f = let z : 64 - k ≡ 0 = omega arith in omega (arith, f, rw z at e)
 
-seen-more : {w k r v x : ℕ} (b : ℕ) (l m : Bytes) → Seen w l k r → k < 64 → l ≡ b ∷ m → v ≡ lfAt k b → x ≡ lesser v r → Seen w m (k + 1) x
-unfolding lfAt lesser
+seen-more : {w k r v x : ℕ} (b : ℕ) (l m : Bytes) → Seen w l k r → k < 64 → l ≡ b ∷ m → v ≡ lfAt k b → x ≡ min v r → Seen w m (k + 1) x
+unfolding lfAt
 seen-more {w} {k} {r} {v} {x} b l m (seen h e) g f i j = rw kept (seen {r = r} (omega arith) e)
   where
     above : k ≤ v
@@ -79,7 +77,7 @@ seen-more {w} {k} {r} {v} {x} b l m (seen h e) g f i j = rw kept (seen {r = r} (
         go false = omega arith
 
     kept : x ≡ r
-    kept = j ∙ rw (le-ltb v r (omega (arith, above)))
+    kept = omega (arith, above, j)
 seen-more {w} {k} {r} {v} {x} b l m (unseen e) g f i j = go (eqb b 10) refl
   where
     n : 64 - k ≡ suc (64 - (k + 1))
@@ -88,14 +86,14 @@ seen-more {w} {k} {r} {v} {x} b l m (unseen e) g f i j = go (eqb b 10) refl
     go : (u : Bool) → eqb b 10 ≡ u → Seen w m (k + 1) x
     go true u =
         let y : v ≡ k = i ∙ rw u in
-        let z : x ≡ k = j ∙ rw (y, lt-ltb k 64 g) in
+        let z : x ≡ k = omega (arith, y, j) in
         rw z (seen {r = k} (omega arith) (stops (eqb-true b 10 u)))
       where
         stops : b ≡ 10 → k ≡ w
         stops c = unfold takeWhile in (omega (arith, rw (f, n, ← line-lf b c) at e))
     go false u =
         let y : v ≡ 64 = i ∙ rw u in
-        let z : x ≡ 64 = j ∙ rw y in
+        let z : x ≡ 64 = omega (arith, y, j) in
         rw z (unseen (goes (eqb-false b 10 u)))
       where
         goes : (b ≡ 10 → ⊥) → k + 1 + length (takeWhile inLine (take (64 - (k + 1)) m)) ≡ w
@@ -105,7 +103,7 @@ module _ {s : Bytes} {from r k : ℕ} (B : Block s from r k) where
   pub block-ends : 64 ≤ k → r ≡ blockEnd s from
   block-ends h = seen-ends (B .is) (omega (arith, B .most))
 
-  pub block-more : {x v : ℕ} → x ≡ lesser v r → v ≡ lfAt k (getD s (from + k) 0) → k < 64 → from + 64 ≤ length s → Block s from x (k + 1)
+  pub block-more : {x v : ℕ} → x ≡ min v r → v ≡ lfAt k (getD s (from + k) 0) → k < 64 → from + 64 ≤ length s → Block s from x (k + 1)
   block-more e f h l =
       let o : from + (k + 1) ≡ suc (from + k) = omega arith in
       record { most = omega arith; is = rw o (seen-more (getD s (from + k) 0) (drop (from + k) s) (drop (suc (from + k)) s) (B .is) h (drop-cons s (from + k) 0 (omega arith)) f e) }

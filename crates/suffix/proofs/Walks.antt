@@ -17,7 +17,7 @@ use Rattle.ascii.proofs.Scan.{scan-part}
 use Rattle.suffix.specs.Host.{labels}
 use Rattle.suffix.specs.Pass.{readLine, inLine}
 use Rattle.suffix.specs.Depth.{lineDepth}
-use Rattle.suffix.specs.Idle.{Idle, lastByte, isPlain, kindOf, KindsOf, stepOf, stopOf, HostLine, Stopped, at-host, at-other}
+use Rattle.suffix.specs.Idle.{Idle, lastByte, isAlphanumeric, kindOf, KindsOf, stepOf, stopOf, HostLine, Stopped, at-host, at-other}
 use Rattle.suffix.specs.declared.skips.Step.{Step}
 use Rattle.suffix.specs.declared.skips.Step.the-variants.{On, Off}
 use Rattle.suffix.specs.declared.skips.Stop.{Stop}
@@ -30,8 +30,8 @@ use Rattle.suffix.proofs.IdleLines.{idle-none, idle-on, idle-line, Find
 -- ---- what a kind tells
 
 data KindIs (last b : ℕ) : ℕ → Type 0 where
-  is-alike : isPlain b ≡ true → KindIs last b 1
-  is-plain : isPlain b ≡ true → (lowerByte b ≡ lowerByte last → ⊥) → KindIs last b 0
+  is-alike : isAlphanumeric b ≡ true → KindIs last b 1
+  is-plain : isAlphanumeric b ≡ true → (lowerByte b ≡ lowerByte last → ⊥) → KindIs last b 0
   is-hyphen : b ≡ 45 → KindIs last b 6
   is-dot : b ≡ 46 → KindIs last b 7
   is-lf : b ≡ 10 → KindIs last b 8
@@ -39,9 +39,9 @@ data KindIs (last b : ℕ) : ℕ → Type 0 where
 
 kind-is : (last b : ℕ) → KindIs last b (kindOf last b)
 unfolding kindOf
-kind-is last b = go (isPlain b) (eqb (lowerByte b) (lowerByte last)) (eqb b 45) (eqb b 46) (eqb b 10) refl refl refl refl refl
+kind-is last b = go (isAlphanumeric b) (eqb (lowerByte b) (lowerByte last)) (eqb b 45) (eqb b 46) (eqb b 10) refl refl refl refl refl
   where
-    go : (p a h d n : Bool) → isPlain b ≡ p → eqb (lowerByte b) (lowerByte last) ≡ a → eqb b 45 ≡ h → eqb b 46 ≡ d → eqb b 10 ≡ n
+    go : (p a h d n : Bool) → isAlphanumeric b ≡ p → eqb (lowerByte b) (lowerByte last) ≡ a → eqb b 45 ≡ h → eqb b 46 ≡ d → eqb b 10 ≡ n
         → KindIs last b (if p then (if a then 1 else 0) else if h then 6 else if d then 7 else if n then 8 else 9)
     go true true h d n e f g i j = is-alike e
     go true false h d n e f g i j = is-plain e (eqb-false (lowerByte b) (lowerByte last) f)
@@ -51,26 +51,26 @@ kind-is last b = go (isPlain b) (eqb (lowerByte b) (lowerByte last)) (eqb b 45) 
     go false a false false false e f g i j = is-rest
 
 -- the two numbers tell whether b may stand behind a
-follow-plain : (a b : ℕ) → isPlain b ≡ true → mayFollow a b ≡ true
+follow-plain : (a b : ℕ) → isAlphanumeric b ≡ true → mayFollow a b ≡ true
 unfolding mayFollow
 follow-plain a b e = rw e
 
-follow-hyphen : (a b : ℕ) → b ≡ 45 → (isPlain a || eqb a 45) ≡ true → mayFollow a b ≡ true
+follow-hyphen : (a b : ℕ) → b ≡ 45 → (isAlphanumeric a || eqb a 45) ≡ true → mayFollow a b ≡ true
 unfolding mayFollow
-follow-hyphen a b e f = go (isPlain b)
+follow-hyphen a b e f = go (isAlphanumeric b)
   where
-    go : (u : Bool) → (if u then true else if eqb b 45 then (isPlain a || eqb a 45) else if eqb b 46 then isPlain a else false) ≡ true
+    go : (u : Bool) → (if u then true else if eqb b 45 then (isAlphanumeric a || eqb a 45) else if eqb b 46 then isAlphanumeric a else false) ≡ true
     go true = refl
     go false = rw (eq-eqb b 45 e, f)
 
-follow-dot : (a b : ℕ) → b ≡ 46 → isPlain a ≡ true → mayFollow a b ≡ true
+follow-dot : (a b : ℕ) → b ≡ 46 → isAlphanumeric a ≡ true → mayFollow a b ≡ true
 unfolding mayFollow
-follow-dot a b e f = go (isPlain b)
+follow-dot a b e f = go (isAlphanumeric b)
   where
     n : b ≡ 45 → ⊥
     n z = omega arith
 
-    go : (u : Bool) → (if u then true else if eqb b 45 then (isPlain a || eqb a 45) else if eqb b 46 then isPlain a else false) ≡ true
+    go : (u : Bool) → (if u then true else if eqb b 45 then (isAlphanumeric a || eqb a 45) else if eqb b 46 then isAlphanumeric a else false) ≡ true
     go true = refl
     go false = rw (ne-eqb b 45 n, eq-eqb b 46 e, f)
 
@@ -131,7 +131,7 @@ walk-starts : (host table : Bytes) {from : ℕ} → from ≤ length table → Wa
 walk-starts host table {from} h = walk-at host table from from 0 h (omega arith) (idle-none host table from (omega arith))
 
 -- a line that is a host up to the LF at i
-module _ {host table : Bytes} {from start i p room : ℕ} (W : Walk host table from start i p room) (l : i < length table) (e : getD table i 0 ≡ 10) (f : isPlain (prevOf table start i) ≡ true) where
+module _ {host table : Bytes} {from start i p room : ℕ} (W : Walk host table from start i p room) (l : i < length table) (e : getD table i 0 ≡ 10) (f : isAlphanumeric (prevOf table start i) ≡ true) where
   rest : drop i table ≡ 10 ∷ drop (suc i) table
   rest = drop-cons table i 0 l ∙ rw e
 
@@ -156,11 +156,11 @@ module _ {host table : Bytes} {from start i p room : ℕ} (W : Walk host table f
   }
 
 -- the last byte of a line that ends at i
-last-before : (table : Bytes) (start i : ℕ) → i ≤ length table → isPlain (prevOf table start i) ≡ true → lastByte (take (i - start) (drop start table)) ≡ prevOf table start i
+last-before : (table : Bytes) (start i : ℕ) → i ≤ length table → isAlphanumeric (prevOf table start i) ≡ true → lastByte (take (i - start) (drop start table)) ≡ prevOf table start i
 unfolding prevOf lastByte
 last-before table start i h f = go (ltb start i) refl f
   where
-    go : (u : Bool) → ltb start i ≡ u → isPlain (if u then getD table (i - 1) 0 else 10) ≡ true
+    go : (u : Bool) → ltb start i ≡ u → isAlphanumeric (if u then getD table (i - 1) 0 else 10) ≡ true
         → getD (take (i - start) (drop start table)) (length (take (i - start) (drop start table)) - 1) 0 ≡ (if u then getD table (i - 1) 0 else 10)
     go true e f =
         let l : start < i = ltb-true start i e in
@@ -195,7 +195,7 @@ lf-of last b k (is-dot e) z = absurd (omega arith)
 lf-of last b k (is-lf e) z = e
 lf-of last b k is-rest z = absurd (omega arith)
 
-plain-of : (last b k : ℕ) → KindIs last b k → k ≤ 1 → isPlain b ≡ true
+plain-of : (last b k : ℕ) → KindIs last b k → k ≤ 1 → isAlphanumeric b ≡ true
 plain-of last b k (is-alike e) z = e
 plain-of last b k (is-plain e f) z = e
 plain-of last b k (is-hyphen e) z = absurd (omega arith)
@@ -224,7 +224,7 @@ module _ {host table : Bytes} {from start i p room : ℕ} (W : Walk host table f
       let f = plain-of (lastByte host) (prevOf table start i) p prev-is (omega arith) in
       let L = line-is W l e f in
       let b = last-before table start i (W .inside) f in
-      let F = finds-unlike host (take (i - start) (drop start table)) (L .host) (ap isPlain b ∙ f)
+      let F = finds-unlike host (take (i - start) (drop start table)) (L .host) (ap isAlphanumeric b ∙ f)
       (λ y. unlike-of (lastByte host) (prevOf table start i) p prev-is z (ap lowerByte (sym b) ∙ y)) in
       idle-on host table (W .idle) (idle-line host table start i (omega (arith, W .onward, W .inside)) (L .ends) (rw (L .whole) (F .best)) (rw (L .whole) (none-deep F)))
 
@@ -305,7 +305,7 @@ turn-starts host table kinds K h = turn-of K (walk-starts host table h)
 pub turn-ends : {host table kinds : Bytes} {from start i p : ℕ} → Turn host table kinds from start i p → Stopped host table from (Other start)
 turn-ends W = at-other (W .walk .idle) (omega (arith, W .onward, W .inside))
 
-module _ {host table kinds : Bytes} {from start i p : ℕ} (T : Turn host table kinds from start i p) (h : 4 ≤ length table - i) (g : i - start < 60) where
+module _ {host table kinds : Bytes} {from start i p : ℕ} (T : Turn host table kinds from start i p) (h : 4 ≤ length table - i) where
   K : KindsOf host kinds
   K = T .kinds-are
 
@@ -315,29 +315,31 @@ module _ {host table kinds : Bytes} {from start i p : ℕ} (T : Turn host table 
   pub stop-one : {r : Stop} → r ≡ stopOf (getD kinds (getD table i 0) 9) p start i → Stopped host table from r
   stop-one = walk-stop K (omega arith) W
 
-  module _ {q : Step} {b k : ℕ} (e : q ≡ On b k) (f : q ≡ stepOf (getD kinds (getD table i 0) 9) p start (i + 1)) where
-    one : Walk host table from b (i + 1) k 3
-    one = walk-on K (omega arith) (walk-room W g) (i + 1) refl e f
+  -- the bytes of this turn leave the line short enough for one label
+  module _ (g : i - start < 60) where
+    module _ {q : Step} {b k : ℕ} (e : q ≡ On b k) (f : q ≡ stepOf (getD kinds (getD table i 0) 9) p start (i + 1)) where
+      one : Walk host table from b (i + 1) k 3
+      one = walk-on K (omega arith) (walk-room W g) (i + 1) refl e f
 
-    pub stop-two : {r : Stop} → r ≡ stopOf (getD kinds (getD table (i + 1) 0) 9) k b (i + 1) → Stopped host table from r
-    stop-two = walk-stop K (omega arith) one
+      pub stop-two : {r : Stop} → r ≡ stopOf (getD kinds (getD table (i + 1) 0) 9) k b (i + 1) → Stopped host table from r
+      stop-two = walk-stop K (omega arith) one
 
-    module _ {q₂ : Step} {c l : ℕ} (e₂ : q₂ ≡ On c l) (f₂ : q₂ ≡ stepOf (getD kinds (getD table (i + 1) 0) 9) k b (i + 1 + 1)) where
-      two : Walk host table from c (i + 2) l 2
-      two = walk-on K (omega arith) one (i + 2) (omega arith) e₂ f₂
+      module _ {q₂ : Step} {c l : ℕ} (e₂ : q₂ ≡ On c l) (f₂ : q₂ ≡ stepOf (getD kinds (getD table (i + 1) 0) 9) k b (i + 1 + 1)) where
+        two : Walk host table from c (i + 2) l 2
+        two = walk-on K (omega arith) one (i + 2) (omega arith) e₂ f₂
 
-      pub stop-three : {r : Stop} → r ≡ stopOf (getD kinds (getD table (i + 2) 0) 9) l c (i + 2) → Stopped host table from r
-      stop-three = walk-stop K (omega arith) two
+        pub stop-three : {r : Stop} → r ≡ stopOf (getD kinds (getD table (i + 2) 0) 9) l c (i + 2) → Stopped host table from r
+        stop-three = walk-stop K (omega arith) two
 
-      module _ {q₃ : Step} {d m : ℕ} (e₃ : q₃ ≡ On d m) (f₃ : q₃ ≡ stepOf (getD kinds (getD table (i + 2) 0) 9) l c (i + 2 + 1)) where
-        three : Walk host table from d (i + 3) m 1
-        three = walk-on K (omega arith) two (i + 3) (omega arith) e₃ f₃
+        module _ {q₃ : Step} {d m : ℕ} (e₃ : q₃ ≡ On d m) (f₃ : q₃ ≡ stepOf (getD kinds (getD table (i + 2) 0) 9) l c (i + 2 + 1)) where
+          three : Walk host table from d (i + 3) m 1
+          three = walk-on K (omega arith) two (i + 3) (omega arith) e₃ f₃
 
-        pub stop-four : {r : Stop} → r ≡ stopOf (getD kinds (getD table (i + 3) 0) 9) m d (i + 3) → Stopped host table from r
-        stop-four = walk-stop K (omega arith) three
+          pub stop-four : {r : Stop} → r ≡ stopOf (getD kinds (getD table (i + 3) 0) 9) m d (i + 3) → Stopped host table from r
+          stop-four = walk-stop K (omega arith) three
 
-        four : {q₄ : Step} {s n : ℕ} → q₄ ≡ On s n → q₄ ≡ stepOf (getD kinds (getD table (i + 3) 0) 9) m d (i + 3 + 1) → Turn host table kinds from s (i + 4) n
-        four e₄ f₄ = turn-of K (walk-on K (omega arith) three (i + 4) (omega arith) e₄ f₄)
+          four : {q₄ : Step} {s n : ℕ} → q₄ ≡ On s n → q₄ ≡ stepOf (getD kinds (getD table (i + 3) 0) 9) m d (i + 3 + 1) → Turn host table kinds from s (i + 4) n
+          four e₄ f₄ = turn-of K (walk-on K (omega arith) three (i + 4) (omega arith) e₄ f₄)
 
 -- the same with its premises from the last to the first, as `search` finds them
 pub turn-more : {host table kinds : Bytes} {from start i p : ℕ} {q q₂ q₃ q₄ : Step} {b k c l d m s n : ℕ}

@@ -33,25 +33,22 @@ pub record Skipped (table : Bytes) (from to : ℕ) : Type 0 where
 unfoldable pub blockEnd : Bytes → ℕ → ℕ
 blockEnd s from = length (takeWhile inLine (take 64 (drop from s)))
 
--- the place k of an LF, 64 of another byte; and the lesser of two places
+-- the place k of an LF, 64 of another byte
 unfoldable pub lfAt : ℕ → ℕ → ℕ
 lfAt k b = if eqb b 10 then k else 64
-
-unfoldable pub lesser : ℕ → ℕ → ℕ
-lesser a b = if ltb a b then a else b
 
 unfoldable pub lastByte : Bytes → ℕ
 lastByte s = getD s (length s - 1) 0
 
-unfoldable pub isPlain : ℕ → Bool
-isPlain b = isLetter b || isDigit b
+unfoldable pub isAlphanumeric : ℕ → Bool
+isAlphanumeric b = isLetter b || isDigit b
 
 -- 0 a letter or digit, 1 one alike to `last`, 6 the hyphen, 7 the dot, 8 LF, 9 the rest. With these numbers b may stand behind a
 -- in a line that is a host not alike to `last` in its last byte exactly where kindOf a + 3 * kindOf b is at most 24, where a is LF
 -- at a line's start.
 unfoldable pub kindOf : ℕ → ℕ → ℕ
 kindOf last b =
-    if isPlain b then (if eqb (lowerByte b) (lowerByte last) then 1 else 0) else
+    if isAlphanumeric b then (if eqb (lowerByte b) (lowerByte last) then 1 else 0) else
     if eqb b 45 then 6 else
     if eqb b 46 then 7 else
     if eqb b 10 then 8 else

@@ -2,7 +2,7 @@
 use crate::hosts;
 ghost use mathlib.Core.Path.{_≡_};
 ghost use mathlib.Core.Bool.{_&&_, _||_, not};
-ghost use Prim.Native.Nat.{suc, _+_, _≤_, _<_, max};
+ghost use Prim.Native.Nat.{suc, _+_, _≤_, _<_, max, min};
 ghost use lib.ListN.{length, getD, drop};
 ghost use lib.Dec.{eqb, ltb};
 ghost use Rattle.ascii.specs.Ascii.{if_then_else_, takeWhile, lastOf};
@@ -10,7 +10,7 @@ ghost use Rattle.ascii.specs.Class.{Classifies};
 ghost use Rattle.suffix.specs.Host.{labels};
 ghost use Rattle.suffix.specs.Place.{Stands, endsAtLabel};
 ghost use Rattle.suffix.specs.Pass.{inLine};
-ghost use Rattle.suffix.specs.Idle.{Skipped, blockEnd, lfAt, lesser, lastByte, kindOf, KindsOf, stepOf, stopOf, Stopped, Passes, Shallow};
+ghost use Rattle.suffix.specs.Idle.{Skipped, blockEnd, lfAt, lastByte, kindOf, KindsOf, stepOf, stopOf, Stopped, Passes, Shallow};
 
 // One byte on: where its line begins, and the byte's kind.
 pub enum Step {
@@ -173,7 +173,7 @@ fn lf_at(k: u8, b: u8) -> u8
 }
 
 fn lesser_of(a: u8, b: u8) -> u8
-    ensures { λ r. ⌜ r ≡ lesser a b ⌝ }
+    ensures { λ r. ⌜ r ≡ min a b ⌝ }
 {
     if a < b { a } else { b }
 }
