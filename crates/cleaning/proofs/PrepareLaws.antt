@@ -1,7 +1,7 @@
 -- What is refused before the list is written: one law for each way through the code.
 use mathlib.Core.Path.{_≡_, refl, sym, ap, _∙_}
 use mathlib.Core.Bool.{Bool, true, false, not}
-use mathlib.Core.List.{List, []}
+use mathlib.Core.List.{[]}
 use mathlib.Core.Option.{Option, none, some}
 use Prim.Native.Nat.{ℕ}
 use native.Mathlib.Omega.{arith}
@@ -11,44 +11,19 @@ use Rattle.origin.specs.Origin.{beginsHttps}
 use Rattle.refusals.specs.declared.Refusal.{Refusal}
 use Rattle.refusals.specs.declared.Refusal.the-variants.{BadAppId, ForeignAppId, BadTable}
 use Rattle.trusted_list.specs.TrustedList.{listRefusal, entries}
-use Rattle.trusted_list.specs.Slots.{idsAt, Answers, is-refused as list-refused, is-selected}
+use Rattle.trusted_list.specs.Slots.{Answers}
 use Rattle.trusted_list.specs.declared.Selection.{Selection}
 use Rattle.trusted_list.specs.declared.Selection.the-variants.{Refused as ListRefused, Ids}
 use Rattle.trusted_list.proofs.Acceptance.{accepted-selects}
-use Rattle.causes.specs.Owner.{OwnedBy, bad-table, owned}
+use Rattle.causes.specs.Owner.{OwnedBy, owned}
 use Rattle.causes.specs.declared.AppOwner.{AppOwner}
 use Rattle.causes.specs.declared.AppOwner.the-variants.{BadTable as NoTable, Label}
 use Rattle.decision.specs.Decide.{isBadAppId}
-use Rattle.decision.specs.Meaning.{entriesAt}
-use Rattle.decision.proofs.ListLaws.{ids-owned}
+use Rattle.decision.proofs.ListLaws.{no-table, some-table, list-refused, list-accepted, list-ids, entries-of, ids-owned}
 use Rattle.cleaning.specs.Clean.{cleanRefusal}
 use Rattle.cleaning.specs.Meaning.{ListedAt, Prepares, is-refused, is-listed}
 use Rattle.cleaning.specs.declared.Ready.{Ready}
 use Rattle.cleaning.specs.declared.Ready.the-variants.{Refused, Listed}
-
-no-table : {appid table : Bytes} {w : AppOwner} → OwnedBy appid table w → w ≡ NoTable → isNone (readTable table) ≡ true
-no-table (bad-table t) h = rw t
-no-table (owned a b c d) h = let z : _≡_ {A = ℕ} 0 1 = cc in absurd (omega arith)
-
-some-table : {appid table : Bytes} {w : AppOwner} {i j : ℕ} {d : Bool} → OwnedBy appid table w → w ≡ Label i j d → isNone (readTable table) ≡ false
-some-table (bad-table t) h = let z : _≡_ {A = ℕ} 0 1 = cc in absurd (omega arith)
-some-table (owned a b c d) h = a
-
-is-list-refused : {major minor : ℕ} {body : Bytes} {q : Selection} {x : Refusal} → Answers major minor body q → q ≡ ListRefused x → listRefusal major minor body ≡ some x
-is-list-refused (list-refused {r} e) h = e ∙ ap some cc
-is-list-refused (is-selected e f) h = let z : _≡_ {A = ℕ} 0 1 = cc in absurd (omega arith)
-
-is-accepted : {major minor : ℕ} {body : Bytes} {q : Selection} {p : ℕ} → Answers major minor body q → q ≡ Ids p → listRefusal major minor body ≡ none
-is-accepted (list-refused e) h = let z : _≡_ {A = ℕ} 0 1 = cc in absurd (omega arith)
-is-accepted (is-selected e f) h = e
-
-is-ids : {major minor : ℕ} {body : Bytes} {q : Selection} {p : ℕ} → Answers major minor body q → q ≡ Ids p → idsAt body p ≡ some (entries major minor body)
-is-ids (list-refused e) h = let z : _≡_ {A = ℕ} 0 1 = cc in absurd (omega arith)
-is-ids {body} {p} (is-selected {p = i} e f) h = let y : i ≡ p = cc in rw (← y) f
-
-entries-of : (body : Bytes) (ids : ℕ) {xs : List Bytes} → idsAt body ids ≡ some xs → entriesAt body ids ≡ xs
-unfolding entriesAt
-entries-of body ids e = rw e
 
 module _ (appid : Bytes) (major minor : ℕ) (body table : Bytes) {b : Bool} (bad : b ≡ isBadAppId appid) where
   pub prepare-bad : b ≡ true → Prepares appid major minor body table (Refused BadAppId)
@@ -72,19 +47,19 @@ module _ (appid : Bytes) (major minor : ℕ) (body table : Bytes) {b : Bool} (ba
           go e f = unfold cleanRefusal in (rw (e, f))
 
       pub prepare-list : {x : Refusal} → q ≡ ListRefused x → Prepares appid major minor body table (Refused x)
-      prepare-list {x} l = is-refused {x = x} (from-list ∙ rw (is-list-refused A l))
+      prepare-list {x} l = is-refused {x = x} (from-list ∙ rw (list-refused A l))
 
       module _ {p : ℕ} (l : q ≡ Ids p) {w : AppOwner} (O : OwnedBy appid table w) where
         pub prepare-table : w ≡ NoTable → Prepares appid major minor body table (Refused BadTable)
-        prepare-table m = is-refused {x = BadTable} (from-list ∙ rw (is-accepted A l, no-table O m))
+        prepare-table m = is-refused {x = BadTable} (from-list ∙ rw (list-accepted A l, no-table O m))
 
         pub prepare-listed : {i j : ℕ} {d : Bool} → w ≡ Label i j d → Prepares appid major minor body table (Listed i j d p)
         prepare-listed m = is-listed (record {
-          none-fits = from-list ∙ rw (is-accepted A l, some-table O m);
-          short = accepted-selects major minor body (is-accepted A l) .short;
+          none-fits = from-list ∙ rw (list-accepted A l, some-table O m);
+          short = accepted-selects major minor body (list-accepted A l) .short;
           owned = ids-owned [] appid table [] O m;
-          there = record { all = entries major minor body; is = is-ids A l };
-          is = entries-of body p (is-ids A l);
+          there = record { all = entries major minor body; is = list-ids A l };
+          is = entries-of body p (list-ids A l);
         })
 
 -- ---- what the callers take from it

@@ -50,15 +50,39 @@ module _ (m : Match) where
   unfolding answerOf matchOf
   match-none e = rw e
 
+-- ---- what the AppID's owner and the selection tell, for every reader of a list
+
+module _ {appid table : Bytes} where
+  pub no-table : {w : AppOwner} → OwnedBy appid table w → w ≡ NoTable → readTable table ≡ none
+  no-table (bad-table t) h = t
+  no-table (owned a b c d) h = let z : _≡_ {A = ℕ} 0 1 = cc in absurd (omega arith)
+
+  pub some-table : {w : AppOwner} {i j : ℕ} {d : Bool} → OwnedBy appid table w → w ≡ Label i j d → isNone (readTable table) ≡ false
+  some-table (bad-table t) h = let z : _≡_ {A = ℕ} 0 1 = cc in absurd (omega arith)
+  some-table (owned a b c d) h = a
+
+module _ {major minor : ℕ} {body : Bytes} where
+  pub list-refused : {q : Selection} {x : Refusal} → Answers major minor body q → q ≡ ListRefused x → listRefusal major minor body ≡ some x
+  list-refused (is-refused {r} e) h = e ∙ ap some cc
+  list-refused (is-selected e f) h = let z : _≡_ {A = ℕ} 0 1 = cc in absurd (omega arith)
+
+  pub list-accepted : {q : Selection} {p : ℕ} → Answers major minor body q → q ≡ Ids p → listRefusal major minor body ≡ none
+  list-accepted (is-refused e) h = let z : _≡_ {A = ℕ} 0 1 = cc in absurd (omega arith)
+  list-accepted (is-selected e f) h = e
+
+  pub list-ids : {q : Selection} {p : ℕ} → Answers major minor body q → q ≡ Ids p → idsAt body p ≡ some (entries major minor body)
+  list-ids (is-refused e) h = let z : _≡_ {A = ℕ} 0 1 = cc in absurd (omega arith)
+  list-ids {p} (is-selected {p = i} e f) h = let y : i ≡ p = cc in rw (← y) f
+
+pub entries-of : (body : Bytes) (ids : ℕ) {xs : List Bytes} → idsAt body ids ≡ some xs → entriesAt body ids ≡ xs
+unfolding entriesAt
+entries-of body ids e = rw e
+
 -- ---- the ids
 
 module _ (caller appid table : Bytes) (es : List Bytes) {w : AppOwner} (O : OwnedBy appid table w) where
   pub ids-bad : w ≡ NoTable → answerOf (Refused BadTable) ≡ byEntries caller appid table es
-  ids-bad h = go O h
-    where
-      go : {w : AppOwner} → OwnedBy appid table w → w ≡ NoTable → answerOf (Refused BadTable) ≡ byEntries caller appid table es
-      go (bad-table t) h = unfold answerOf byEntries in (rw t)
-      go (owned a b c d) h = let z : _≡_ {A = ℕ} 0 1 = cc in absurd (omega arith)
+  ids-bad h = unfold answerOf byEntries in (rw (no-table O h))
 
   module _ {i j : ℕ} {d : Bool} (h : w ≡ Label i j d) where
     pub ids-owned : Owned appid table i j d
@@ -73,25 +97,17 @@ module _ (caller appid table : Bytes) (es : List Bytes) {w : AppOwner} (O : Owne
             rw (← x, ← y, ← z) (record { low = b; high = c; is = unfold part in o })
 
     pub ids-matched : (m : Match) (r : Answer) → matchOf m ≡ firstMatch caller (kept appid table es) → answerOf r ≡ byPlace (matchOf m) → answerOf r ≡ byEntries caller appid table es
-    ids-matched m r e f = go O h
+    ids-matched m r e f = f ∙ ap byPlace e ∙ by (readTable table) refl (some-table O h)
       where
         by : (o : Option (List Rule)) → readTable table ≡ o → isNone o ≡ false → byPlace (firstMatch caller (kept appid table es)) ≡ byEntries caller appid table es
         by none t n = let z : _≡_ {A = ℕ} 0 1 = cc in absurd (omega arith)
         by (some rs) t n = unfold byEntries in (rw t)
-
-        go : {w : AppOwner} → OwnedBy appid table w → w ≡ Label i j d → answerOf r ≡ byEntries caller appid table es
-        go (bad-table t) h = let z : _≡_ {A = ℕ} 0 1 = cc in absurd (omega arith)
-        go (owned a b c o) h = f ∙ ap byPlace e ∙ by (readTable table) refl a
 
 -- ---- refusals 7 to 13
 
 refused-is : (x : Refusal) → answerOf (Refused x) ≡ refused x
 unfolding answerOf
 refused-is x = refl
-
-entries-of : (body : Bytes) (ids : ℕ) {xs : List Bytes} → idsAt body ids ≡ some xs → entriesAt body ids ≡ xs
-unfolding entriesAt
-entries-of body ids e = rw e
 
 module _ (caller appid : Bytes) (major minor : ℕ) (body table : Bytes) (a : Response) where
   pub late-status : (a .status ≡ 200 → ⊥) → answerOf (Refused NotFetched) ≡ byList caller appid major minor body table (listDue (responseOf a))
@@ -111,34 +127,19 @@ module _ (caller appid : Bytes) (major minor : ℕ) (body table : Bytes) (a : Re
       by-refusal o e = rw (eq-eqb (a .status) 200 s, t, e)
 
       pub late-refused : {x : Refusal} → q ≡ ListRefused x → answerOf (Refused x) ≡ byList caller appid major minor body table (listDue (responseOf a))
-      late-refused {x} h = go A h
-        where
-          go : {q : Selection} → Answers major minor body q → q ≡ ListRefused x → answerOf (Refused x) ≡ byList caller appid major minor body table (listDue (responseOf a))
-          go (is-refused {r} e) h = let y : r ≡ x = cc in refused-is x ∙ sym (by-refusal (some r) e ∙ ap refused y)
-          go (is-selected e f) h = let z : _≡_ {A = ℕ} 0 1 = cc in absurd (omega arith)
+      late-refused {x} h = refused-is x ∙ sym (by-refusal (some x) (list-refused A h))
 
       module _ {p : ℕ} (h : q ≡ Ids p) where
         pub late-there : IdsThere body p
-        late-there = go A h
-          where
-            go : {q : Selection} → Answers major minor body q → q ≡ Ids p → IdsThere body p
-            go (is-refused e) h = let z : _≡_ {A = ℕ} 0 1 = cc in absurd (omega arith)
-            go (is-selected {p = i} e f) h = let y : i ≡ p = cc in record { all = entries major minor body; is = ap (idsAt body) (sym y) ∙ f }
+        late-there = record { all = entries major minor body; is = list-ids A h }
 
         pub late-ids : (r : Answer) → answerOf r ≡ byEntries caller appid table (entriesAt body p) → answerOf r ≡ byList caller appid major minor body table (listDue (responseOf a))
-        late-ids r g = go A h
+        late-ids r g = g ∙ ap (byEntries caller appid table) (entries-of body p (list-ids A h)) ∙ by (readTable table) refl ∙ sym (by-refusal none (list-accepted A h))
           where
             by : (o : Option (List Rule)) → readTable table ≡ o → byEntries caller appid table (entries major minor body)
                 ≡ unless (BadTable when isNone o) (byPlace (firstMatch caller (kept appid table (entries major minor body))))
             by none t = unfold byEntries in (rw t)
             by (some rs) t = unfold byEntries in (rw t)
-
-            go : {q : Selection} → Answers major minor body q → q ≡ Ids p → answerOf r ≡ byList caller appid major minor body table (listDue (responseOf a))
-            go (is-refused e) h = let z : _≡_ {A = ℕ} 0 1 = cc in absurd (omega arith)
-            go (is-selected {p = i} e f) h =
-                let y : i ≡ p = cc in
-                let x : entriesAt body p ≡ entries major minor body = entries-of body p (ap (idsAt body) (sym y) ∙ f) in
-                g ∙ ap (byEntries caller appid table) x ∙ by (readTable table) refl ∙ sym (by-refusal none e)
 
 -- ---- the decision
 
