@@ -72,9 +72,6 @@ head-wrote major minor {o} h A B C D E =
     wrote-then (wrote-then (wrote-then (wrote-then A B (omega arith)) C (omega arith)) D (omega arith)) E (omega arith)
 
 module _ {appid : Bytes} {major minor : ℕ} {body table : Bytes} {start end : ℕ} {deeper : Bool} {ids : ℕ} (L : ListedAt appid major minor body table start end deeper ids) where
-  ids-text : Bytes
-  ids-text = idsText true (names appid table (entriesAt body ids))
-
   parts : cleanedList appid major minor body table ≡ (listHead major minor ++ idsText true (names appid table (entriesAt body ids))) ++ text "]}]}"
   parts = list-parts appid major minor body table ids (L .is)
 

@@ -5,12 +5,12 @@ use mathlib.Core.List.{List, [], _∷_, _++_, append-assoc, append-nil}
 use Prim.Native.Nat.{ℕ, _+_, _-_, _*_, _≤_, _<_}
 use native.Mathlib.Omega.{arith}
 use lib.Dec.{eqb}
-use lib.ListN.{length, take, drop, length-append, take-append-drop}
-use borrow.Author.Tests.{eq-eqb, ne-eqb, le-leb}
+use lib.ListN.{length, take, drop, length-append}
+use borrow.Author.Tests.{eq-eqb, ne-eqb}
 use Rattle.ascii.specs.Ascii.{Bytes, if_then_else_, isNone}
 use Rattle.origin.specs.Origin.{normalForm}
-use Rattle.origin.specs.Parts.{writtenAt, behind, Wrote}
-use Rattle.origin.proofs.Writings.{wrote-place, wrote-length, wrote-then}
+use Rattle.origin.specs.Parts.{Wrote}
+use Rattle.origin.proofs.Writings.{nothing-wrote, wrote-place, wrote-length, wrote-then}
 use Rattle.json_text.specs.Lexical.{readString}
 use Rattle.json_text.specs.Places.{readAt, placeOf, contentOf, Holds}
 use Rattle.json_text.specs.PlainString.{PlainIs}
@@ -91,12 +91,6 @@ id-some : (first : Bool) (x : Bytes) → 1 ≤ length (idText first x)
 id-some true x = omega (arith, id-length true x)
 id-some false x = omega (arith, id-length false x)
 
-wrote-nothing : (at : ℕ) (o : Bytes) → at ≤ length o → Wrote [] at o o at
-unfolding writtenAt behind
-wrote-nothing at o h =
-    let n : at + 0 ≡ at = omega arith in
-    record { is = rw (n, le-leb at (length o) h, append-nil (take at o)) (sym (take-append-drop at o)); place = rw (n, le-leb at (length o) h) }
-
 -- the entries es are to come at a place, and the ids before them are written
 pub record Written (appid table : Bytes) (start end : ℕ) (deeper : Bool) (s goal : Bytes) (begin : ℕ) (before out : Bytes) (at to : ℕ) : Type 0 where
   pub kept : length out ≡ length before
@@ -115,7 +109,7 @@ module _ (appid table : Bytes) (start end : ℕ) (deeper : Bool) (s : Bytes) (id
   first-comes = rw (e, entries-at s ids T) (entries-come s ids (T .is))
 
   pub write-none : q ≡ Bad → Wrote (idsText true (names appid table (entriesAt s ids))) begin before before begin
-  write-none h = rw (nothing-comes first-comes h, no-names appid table, ids-none true) (wrote-nothing begin before (omega arith))
+  write-none h = rw (nothing-comes first-comes h, no-names appid table, ids-none true) (nothing-wrote begin before)
 
   pub write-starts : {i : ℕ} → Owned appid table start end deeper → q ≡ At i
       → Written appid table start end deeper s (idsText true (names appid table (entriesAt s ids))) begin before before i begin
@@ -127,7 +121,7 @@ module _ (appid table : Bytes) (start end : ℕ) (deeper : Bool) (s : Bytes) (id
         room = room;
         inside = string-spans s i (comes-at C refl .read) .inside;
         done = [];
-        wrote = wrote-nothing begin before (omega arith);
+        wrote = nothing-wrote begin before;
         es = entriesAt s ids;
         coming = C;
         is = rw (eq-eqb begin begin refl);

@@ -132,7 +132,8 @@ part-colon s end tail e h k =
     let n : tail - end ≡ suc (tail - (end + 1)) = omega arith in
     rw (n, drop-cons s end 0 l, e, add-one)
 
-nothing-wrote : (at : ℕ) (o : Bytes) → Wrote [] at o o at
+-- no bytes, at any place
+pub nothing-wrote : (at : ℕ) (o : Bytes) → Wrote [] at o o at
 unfolding writtenAt behind
 nothing-wrote at o = go (leb (at + 0) (length o)) refl
   where
