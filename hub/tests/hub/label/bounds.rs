@@ -59,6 +59,21 @@ fn a_rules_label_has_at_most_63_bytes() {
     }
 }
 
+/// Lines that cannot match are passed over several bytes at a time, so each length stands at each offset.
+#[test]
+fn a_rules_label_has_at_most_63_bytes_where_its_line_is_passed_over() {
+    for length in 56..=68 {
+        let long = label(length);
+        for offset in 0..8 {
+            let before = format!("{}\n", "z".repeat(offset + 1));
+            for line in [long.clone(), format!("{long}.z"), format!("z.{long}")] {
+                let table = format!("{before}{line}\nz.z\nz.z\n");
+                check("a.b.c", table, if length <= 63 { "b.c" } else { NONE });
+            }
+        }
+    }
+}
+
 #[test]
 fn a_rules_name_has_at_most_253_bytes_without_its_exception_mark() {
     for (length, good) in [(252, true), (253, true), (254, false), (255, false)] {
