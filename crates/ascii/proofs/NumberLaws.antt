@@ -12,7 +12,7 @@ use lib.Dec.{leb}
 use borrow.Author.Tests.{lt-leb, le-leb, leb-true, lt-ltb, le-ltb}
 use borrow.Author.Needs.{needs}
 use Rattle.ascii.specs.Ascii.{Bytes, if_then_else_, _when_, all, isDigit, valueFrom, value, number16, decimalUpTo, decimal}
-use Rattle.ascii.specs.Numbers.{numberOf, DigitIs, Writes}
+use Rattle.ascii.specs.code.Numbers.{numberOf, DigitIs, Writes}
 use Rattle.ascii.specs.declared.decimals.Number.{Number}
 use Rattle.ascii.specs.declared.decimals.Number.the-variants.{Value, Malformed}
 

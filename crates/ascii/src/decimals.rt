@@ -3,7 +3,7 @@ ghost use mathlib.Core.Path.{_≡_};
 ghost use mathlib.Core.Bool.{true};
 ghost use Prim.Native.Nat.{_+_, _<_};
 ghost use Rattle.ascii.specs.Ascii.{isDigit, number16};
-ghost use Rattle.ascii.specs.Numbers.{numberOf, DigitIs, Writes};
+ghost use Rattle.ascii.specs.code.Numbers.{numberOf, DigitIs, Writes};
 
 pub enum Number {
     Value(u16),

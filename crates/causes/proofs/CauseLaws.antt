@@ -10,16 +10,16 @@ use lib.ListN.{length, take, drop}
 use borrow.Author.Tests.{lt-ltb, le-ltb, le-leb, leb-false}
 use Rattle.ascii.specs.Ascii.{Bytes, if_then_else_}
 use Rattle.origin.specs.Origin.{Authority, beginsHttps, beginsNative, webOrigin, isNative, isFacet}
-use Rattle.origin.specs.Parts.{part, authorityIn, Reads}
+use Rattle.origin.specs.code.Parts.{part, authorityIn, Reads}
 use Rattle.origin.specs.declared.Parts.{Parts}
 use Rattle.origin.specs.declared.Reading.{Reading}
 use Rattle.origin.specs.declared.Reading.the-variants.{Found, Malformed}
 use Rattle.origin.proofs.Readings.{found, is-none, found-low, found-high}
 use Rattle.origin.proofs.Origins.{origin-read, native-begins, native-not-https, no-https-no-web}
-use Rattle.json_text.specs.Places.{fit, content}
+use Rattle.json_text.specs.code.Places.{fit, content}
 use Rattle.json_text.specs.declared.Decoded.{Decoded}
 use Rattle.causes.specs.Causes.{isOtherLabel, cause}
-use Rattle.causes.specs.Owner.{Owns, Differs, Judges, JudgesHeld, causeOf}
+use Rattle.causes.specs.code.Owner.{Owns, Differs, Judges, JudgesHeld, causeOf}
 use Rattle.causes.specs.declared.Verdict.{Verdict}
 use Rattle.causes.specs.declared.Verdict.the-variants.{Kept, TooLong, OtherScheme, NotFacet, OtherLabel}
 

@@ -11,7 +11,7 @@ use Rattle.ascii.specs.Ascii.{Bytes, isNone, all, lower, sameNoCase}
 use Rattle.ascii.proofs.ListLaws.{all-mapped}
 use Rattle.suffix.proofs.Case.{private-label}
 use Rattle.origin.specs.Origin.{Authority, webOrigin, normalForm}
-use Rattle.origin.specs.Normals.{normalAuthority, isPlainByte}
+use Rattle.origin.specs.code.Normals.{normalAuthority, isPlainByte}
 use Rattle.origin.proofs.Origins.{web-begins}
 use Rattle.origin.proofs.NormalForms.{own-normal, normal-short, lower-twice, origin-normal, host-normal, facet-normal}
 use Rattle.origin.proofs.PlainBytes.{facet-plain}

@@ -11,23 +11,22 @@ use lib.ListN.{length, take, drop, length-drop, length-take}
 use lib.Seq.{drop-drop}
 use Rattle.ascii.specs.Ascii.{Bytes, _>>=_}
 use Rattle.suffix.specs.Host.{isHost}
-use Rattle.suffix.specs.Place.{endsAtLabel}
-use Rattle.suffix.specs.Suffix.{privateLabel}
-use Rattle.suffix.specs.Pass.{orEmpty}
-use Rattle.suffix.specs.Deeper.{isDeeper, isTheLabel}
-use Rattle.suffix.specs.Depth.{deeperThan, OwnerIs, bad-table as no-table, owner-is}
+use Rattle.suffix.specs.code.Place.{endsAtLabel}
+use Rattle.suffix.specs.Suffix.{privateLabel, orEmpty}
+use Rattle.suffix.specs.code.Deeper.{isDeeper, isTheLabel}
+use Rattle.suffix.specs.code.Depth.{deeperThan, OwnerIs, bad-table as no-table, owner-is}
 use Rattle.suffix.specs.declared.Owner.{Owner}
 use Rattle.suffix.specs.declared.Owner.the-variants.{BadTable as Unread, Label as LabelOf}
 use Rattle.suffix.proofs.Speed.{one-label}
 use Rattle.suffix.proofs.Owned.{label-some}
 use Rattle.origin.specs.Origin.{Authority, httpsUrl}
-use Rattle.origin.specs.Parts.{part, authorityIn, Reads}
+use Rattle.origin.specs.code.Parts.{part, authorityIn, Reads}
 use Rattle.origin.specs.declared.Parts.{Parts}
 use Rattle.origin.specs.declared.Reading.{Reading}
 use Rattle.origin.specs.declared.Reading.the-variants.{Found, Malformed}
 use Rattle.origin.proofs.Readings.{found, is-none, found-low, found-high}
 use Rattle.causes.specs.Causes.{appLabel, labelsAgree}
-use Rattle.causes.specs.Owner.{Owns, OwnedBy, bad-table, owned, Differs}
+use Rattle.causes.specs.code.Owner.{Owns, OwnedBy, bad-table, owned, Differs}
 use Rattle.causes.specs.declared.AppOwner.the-variants.{BadTable, Label}
 
 -- ---- the AppID's label

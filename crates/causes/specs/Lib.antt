@@ -1,2 +1,2 @@
 pub mod Causes
-pub mod Owner
+pub mod code

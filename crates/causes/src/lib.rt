@@ -1,8 +1,8 @@
 // Why an entry is discarded, or that it is kept.
 use json_text::Decoded;
 use origin::Reading;
-ghost use Rattle.json_text.specs.Places.{content};
-ghost use Rattle.causes.specs.Owner.{OwnedBy, Differs, Judges, JudgesHeld};
+ghost use Rattle.json_text.specs.code.Places.{content};
+ghost use Rattle.causes.specs.code.Owner.{OwnedBy, Differs, Judges, JudgesHeld};
 
 // Kept, or the first cause that holds: 1 to 4.
 pub enum Verdict {

@@ -12,17 +12,17 @@ use lib.ListN.{length, take, drop, length-append}
 use lib.Seq.{length-take-le}
 use borrow.Author.Tests.{le-leb, leb-true, leb-false, lt-ltb, le-ltb}
 use Rattle.ascii.specs.Ascii.{Bytes, if_then_else_, text, decimal}
-use Rattle.ascii.specs.Numbers.{Writes}
+use Rattle.ascii.specs.code.Numbers.{Writes}
 use Rattle.ascii.specs.declared.decimals.Decimal.{Decimal}
-use Rattle.origin.specs.Parts.{Wrote}
+use Rattle.origin.specs.code.Parts.{Wrote}
 use Rattle.origin.proofs.Writings.{wrote-is, wrote-place, wrote-length, wrote-then}
 use Rattle.refusals.specs.declared.Refusal.{Refusal}
 use Rattle.refusals.specs.declared.Refusal.the-variants.{Full}
 use Rattle.trusted_list.specs.TrustedList.{entries, Accepted}
 use Rattle.trusted_list.proofs.Acceptance.{accepted-selects}
-use Rattle.decision.specs.Meaning.{Owned, IdsThere, entriesAt}
+use Rattle.decision.specs.code.Meaning.{Owned, IdsThere, entriesAt}
 use Rattle.cleaning.specs.Clean.{render, cleanedList, cleanRefusal, notCleaned, cleaned, fitting, orClean, clean}
-use Rattle.cleaning.specs.Meaning.{ListedAt, Prepares, names, idsText, listHead, Cleans, refuses, writes}
+use Rattle.cleaning.specs.code.Meaning.{ListedAt, Prepares, names, idsText, listHead, Cleans, refuses, writes}
 use Rattle.cleaning.specs.declared.Output.{Output}
 use Rattle.cleaning.specs.declared.Output.the-variants.{Refused as NotWritten, Length}
 use Rattle.cleaning.specs.declared.Ready.{Ready}

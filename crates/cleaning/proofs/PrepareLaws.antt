@@ -11,17 +11,17 @@ use Rattle.origin.specs.Origin.{beginsHttps}
 use Rattle.refusals.specs.declared.Refusal.{Refusal}
 use Rattle.refusals.specs.declared.Refusal.the-variants.{BadAppId, ForeignAppId, BadTable}
 use Rattle.trusted_list.specs.TrustedList.{listRefusal, entries}
-use Rattle.trusted_list.specs.Slots.{Answers}
+use Rattle.trusted_list.specs.code.Slots.{Answers}
 use Rattle.trusted_list.specs.declared.Selection.{Selection}
 use Rattle.trusted_list.specs.declared.Selection.the-variants.{Refused as ListRefused, Ids}
 use Rattle.trusted_list.proofs.Acceptance.{accepted-selects}
-use Rattle.causes.specs.Owner.{OwnedBy, owned}
+use Rattle.causes.specs.code.Owner.{OwnedBy, owned}
 use Rattle.causes.specs.declared.AppOwner.{AppOwner}
 use Rattle.causes.specs.declared.AppOwner.the-variants.{BadTable as NoTable, Label}
 use Rattle.decision.specs.Decide.{isBadAppId}
 use Rattle.decision.proofs.ListLaws.{no-table, some-table, list-refused, list-accepted, list-ids, entries-of, ids-owned}
 use Rattle.cleaning.specs.Clean.{cleanRefusal}
-use Rattle.cleaning.specs.Meaning.{ListedAt, Prepares, is-refused, is-listed}
+use Rattle.cleaning.specs.code.Meaning.{ListedAt, Prepares, is-refused, is-listed}
 use Rattle.cleaning.specs.declared.Ready.{Ready}
 use Rattle.cleaning.specs.declared.Ready.the-variants.{Refused, Listed}
 

@@ -13,22 +13,22 @@ use Rattle.ascii.specs.Ascii.{Bytes, if_then_else_, isNone, filterBy, text, pre
 use Rattle.origin.specs.Origin.{normalForm}
 use Rattle.origin.proofs.NormalForms.{normal-short}
 use Rattle.json_text.specs.Lexical.{readString}
-use Rattle.json_text.specs.Places.{readAt, placeOf, contentOf, Holds}
-use Rattle.json_text.specs.PlainString.{PlainIs}
+use Rattle.json_text.specs.code.Places.{readAt, placeOf, contentOf, Holds}
+use Rattle.json_text.specs.code.PlainString.{PlainIs}
 use Rattle.json_text.specs.declared.Next.{Next}
 use Rattle.json_text.specs.declared.Next.the-variants.{At, Bad}
 use Rattle.json_text.specs.declared.Text.{Text}
-use Rattle.trusted_list.specs.Entries.{firstEntry, nextEntry, Coming}
+use Rattle.trusted_list.specs.code.Entries.{firstEntry, nextEntry, Coming}
 use Rattle.trusted_list.proofs.EntryLaws.{entries-come}
 use Rattle.causes.specs.Causes.{cause, kept}
-use Rattle.causes.specs.Owner.{Judges, causeOf}
+use Rattle.causes.specs.code.Owner.{Judges, causeOf}
 use Rattle.causes.specs.declared.Verdict.{Verdict}
 use Rattle.causes.specs.declared.Verdict.the-variants.{Kept}
-use Rattle.decision.specs.Meaning.{Owned, IdsThere, entriesAt}
+use Rattle.decision.specs.code.Meaning.{Owned, IdsThere, entriesAt}
 use Rattle.decision.proofs.EntrySteps.{Comes, string-spans, next-ahead, comes-at, nothing-comes, entries-at, kept-step, no-string, end-is, held-entry, long-dropped, over-dropped}
 use Rattle.decision.proofs.PlainEntry.{plain-ends, plain-is, keeps, judged}
 use Rattle.cleaning.specs.Clean.{quoted}
-use Rattle.cleaning.specs.Meaning.{names, opening, idText, idsText, Adds, adds-it, adds-none, SizedPart, SizedIs, Small, no-size, small-size}
+use Rattle.cleaning.specs.code.Meaning.{names, opening, idText, idsText, Adds, adds-it, adds-none, SizedPart, SizedIs, Small, no-size, small-size}
 use Rattle.cleaning.specs.declared.Sized.{Sized}
 use Rattle.cleaning.specs.declared.Sized.the-variants.{Wrong, Goes}
 

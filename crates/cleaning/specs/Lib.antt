@@ -1,2 +1,2 @@
 pub mod Clean
-pub mod Meaning
+pub mod code

@@ -7,11 +7,11 @@ use trusted_list::Selection;
 ghost use mathlib.Core.Path.{_≡_};
 ghost use Prim.Native.Nat.{_+_, _≤_};
 ghost use lib.ListN.{length};
-ghost use Rattle.decision.specs.Meaning.{Owned, IdsThere, entriesAt};
-ghost use Rattle.origin.specs.Parts.{Wrote};
+ghost use Rattle.decision.specs.code.Meaning.{Owned, IdsThere, entriesAt};
+ghost use Rattle.origin.specs.code.Parts.{Wrote};
 ghost use Rattle.ascii.specs.Ascii.{decimal};
 ghost use Rattle.cleaning.specs.Clean.{cleanedList, fitting, clean};
-ghost use Rattle.cleaning.specs.Meaning.{ListedAt, Prepares, names, opening, idsText, SizedPart, SizedIs, Small, IdWrote, PutPart, PutIs, listHead, Cleans};
+ghost use Rattle.cleaning.specs.code.Meaning.{ListedAt, Prepares, names, opening, idsText, SizedPart, SizedIs, Small, IdWrote, PutPart, PutIs, listHead, Cleans};
 ghost use mathlib.Core.Bool.{true};
 ghost use lib.Dec.{leb};
 

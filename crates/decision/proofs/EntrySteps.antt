@@ -14,21 +14,21 @@ use Rattle.ascii.specs.Ascii.{Bytes, if_then_else_, _>>=_ as _then_, isNone, fi
 use Rattle.origin.specs.Matching.{facetMatches}
 use Rattle.json_text.specs.Reader.{Read, got, bad, _>>=_, _>>_, oneOf, peek}
 use Rattle.json_text.specs.Lexical.{readString}
-use Rattle.json_text.specs.Places.{readAt, placeOf, fit, content, contentOf, Holds}
+use Rattle.json_text.specs.code.Places.{readAt, placeOf, fit, content, contentOf, Holds}
 use Rattle.json_text.specs.declared.Next.{Next}
 use Rattle.json_text.specs.declared.Next.the-variants.{At, Bad}
 use Rattle.json_text.specs.declared.Text.{Text}
 use Rattle.json_text.proofs.Holding.{content-short}
 use Rattle.json_text.proofs.Steps.{peek-in, one-yes, one-no, no-fall, is-one, not-one, found}
-use Rattle.trusted_list.specs.Entries.{toNext, firstEntry, nextEntry, Coming, over, comes}
+use Rattle.trusted_list.specs.code.Entries.{toNext, firstEntry, nextEntry, Coming, over, comes}
 use Rattle.trusted_list.proofs.MemberLaws.{bound}
 use Rattle.trusted_list.proofs.EntryLaws.{entries-come}
 use Rattle.causes.specs.Causes.{cause, kept}
-use Rattle.causes.specs.Owner.{Owns, causeOf}
+use Rattle.causes.specs.code.Owner.{Owns, causeOf}
 use Rattle.causes.proofs.CauseLaws.{fit-some, held-long, held-over}
 use Rattle.causes.specs.declared.Verdict.the-variants.{TooLong}
 use Rattle.decision.specs.Decide.{firstMatch}
-use Rattle.decision.specs.Meaning.{Owned, IdsThere, entriesAt, matchOf, Passes, matches-it, is-kept, is-dropped, PartIs, StepIs}
+use Rattle.decision.specs.code.Meaning.{Owned, IdsThere, entriesAt, matchOf, Passes, matches-it, is-kept, is-dropped, PartIs, StepIs}
 use Rattle.decision.specs.declared.Match.the-variants.{At as MatchAt, Nowhere}
 use Rattle.decision.specs.declared.Step.{Step}
 use Rattle.decision.specs.declared.Step.the-variants.{Matched, Goes, Wrong}

@@ -9,27 +9,27 @@ use lib.ListN.{length, take, drop}
 use borrow.Author.Tests.{eq-eqb, ne-eqb}
 use Rattle.ascii.specs.Ascii.{Bytes, if_then_else_, _when_, _orElse_, isNone}
 use Rattle.suffix.specs.Suffix.{Rule, readTable}
-use Rattle.origin.specs.Parts.{part}
+use Rattle.origin.specs.code.Parts.{part}
 use Rattle.refusals.specs.declared.Refusal.{Refusal}
 use Rattle.refusals.specs.declared.Refusal.the-variants.{NotFetched, WrongType, BadTable, NotListed}
 use Rattle.trusted_list.specs.TrustedList.{listRefusal, entries}
-use Rattle.trusted_list.specs.Slots.{idsAt, Answers, is-refused, is-selected}
+use Rattle.trusted_list.specs.code.Slots.{idsAt, Answers, is-refused, is-selected}
 use Rattle.trusted_list.specs.declared.Selection.{Selection}
 use Rattle.trusted_list.specs.declared.Selection.the-variants.{Refused as ListRefused, Ids}
-use Rattle.fetch_record.specs.Record.{Redirect}
-use Rattle.fetch_record.specs.Meaning.{answerOf as responseOf, target, lastHop, TargetOf, of-none, of-hop, Targets}
+use Rattle.fetch_record.specs.Record.{Redirect, lastHop}
+use Rattle.fetch_record.specs.code.Meaning.{answerOf as responseOf, target, TargetOf, of-none, of-hop, Targets}
 use Rattle.fetch_record.specs.declared.item.Answer.{Answer as Response}
 use Rattle.fetch_record.specs.declared.Target.{Target}
 use Rattle.fetch_record.specs.declared.Target.the-variants.{NoRedirect, Part}
 use Rattle.fetch_record.proofs.CallerLaws.{target-start, target-end, target-some, target-none}
 use Rattle.causes.specs.Causes.{kept}
-use Rattle.causes.specs.Owner.{OwnedBy, bad-table, owned}
+use Rattle.causes.specs.code.Owner.{OwnedBy, bad-table, owned}
 use Rattle.causes.specs.declared.AppOwner.{AppOwner}
 use Rattle.causes.specs.declared.AppOwner.the-variants.{BadTable as NoTable, Label}
 use Rattle.decision.specs.Answer.{refused}
 use Rattle.decision.specs.Decide.{listDue, beforeList, firstMatch, lateRefusal, byPlace, unless, byList, decide}
 use Rattle.decision.specs.Location.{fetchFrom, ifFetch, fetchLocation, Source, nowhere, sourceFrom, sourceIfFetch, fetchSource}
-use Rattle.decision.specs.Meaning.{answerOf, stageOf, Owned, IdsThere, entriesAt, matchOf, byEntries, locationOf, Inside, no-place, app-place, text-place, Stands, at-nowhere, at-app, at-hop, Locates}
+use Rattle.decision.specs.code.Meaning.{answerOf, stageOf, Owned, IdsThere, entriesAt, matchOf, byEntries, locationOf, Inside, no-place, app-place, text-place, Stands, at-nowhere, at-app, at-hop, Locates}
 use Rattle.decision.specs.declared.Answer.{Answer}
 use Rattle.decision.specs.declared.Answer.the-variants.{Rule1, Rule2, Rule3, Rule4, Fetch, Refused}
 use Rattle.decision.specs.declared.Stage.{Stage}

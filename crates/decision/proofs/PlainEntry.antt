@@ -10,15 +10,15 @@ use Rattle.ascii.specs.Ascii.{Bytes, isNone}
 use Rattle.origin.specs.Matching.{facetMatches}
 use Rattle.json_text.specs.Reader.{got}
 use Rattle.json_text.specs.Lexical.{readString}
-use Rattle.json_text.specs.Places.{readAt}
-use Rattle.json_text.specs.PlainString.{Within, in-text, no-place, Plain, is-plain, is-other, PlainIs}
+use Rattle.json_text.specs.code.Places.{readAt}
+use Rattle.json_text.specs.code.PlainString.{Within, in-text, no-place, Plain, is-plain, is-other, PlainIs}
 use Rattle.json_text.specs.declared.Next.{Next}
 use Rattle.json_text.specs.declared.Next.the-variants.{At}
 use Rattle.causes.specs.Causes.{cause}
-use Rattle.causes.specs.Owner.{Owns, Judges, causeOf}
+use Rattle.causes.specs.code.Owner.{Owns, Judges, causeOf}
 use Rattle.causes.specs.declared.Verdict.{Verdict}
 use Rattle.causes.specs.declared.Verdict.the-variants.{Kept, TooLong, OtherScheme, NotFacet, OtherLabel}
-use Rattle.decision.specs.Meaning.{matches-it, is-kept, is-dropped, PartIs, StepIs}
+use Rattle.decision.specs.code.Meaning.{matches-it, is-kept, is-dropped, PartIs, StepIs}
 use Rattle.decision.specs.declared.Step.{Step}
 use Rattle.decision.specs.declared.Step.the-variants.{Matched, Goes}
 

@@ -9,7 +9,7 @@ use borrow.Author.Tests.{lt-ltb, le-ltb}
 use Rattle.ascii.specs.Ascii.{Bytes, if_then_else_, isEmpty, same}
 use Rattle.origin.specs.Origin.{beginsHttps, httpsUrl, webOrigin, isFacet}
 use Rattle.origin.specs.Matching.{sameHost}
-use Rattle.origin.specs.Parts.{authorityIn, Reads}
+use Rattle.origin.specs.code.Parts.{authorityIn, Reads}
 use Rattle.origin.specs.declared.Parts.{Parts}
 use Rattle.origin.specs.declared.Reading.{Reading}
 use Rattle.origin.specs.declared.Reading.the-variants.{Found, Malformed}
@@ -17,12 +17,12 @@ use Rattle.origin.proofs.Readings.{found, is-none}
 use Rattle.refusals.specs.declared.Refusal.{Refusal}
 use Rattle.refusals.specs.declared.Refusal.the-variants.{Stranger, BadAppId, ForeignAppId}
 use Rattle.fetch_record.specs.Fetching.{fetching}
-use Rattle.fetch_record.specs.Meaning.{outcomeOf}
+use Rattle.fetch_record.specs.code.Meaning.{outcomeOf}
 use Rattle.fetch_record.specs.declared.item.Answer.{Answer as Response}
 use Rattle.fetch_record.specs.declared.Outcome.{Outcome}
 use Rattle.fetch_record.specs.declared.Outcome.the-variants.{Refused as HopRefused, Fetch as MustFetch, Answered}
 use Rattle.decision.specs.Decide.{isBadAppId, byFetch, beforeList}
-use Rattle.decision.specs.Meaning.{answerOf, stageOf}
+use Rattle.decision.specs.code.Meaning.{answerOf, stageOf}
 use Rattle.decision.specs.declared.Answer.the-variants.{Rule1, Rule2, Rule3, Fetch, Refused}
 use Rattle.decision.specs.declared.Stage.{Stage}
 use Rattle.decision.specs.declared.Stage.the-variants.{Settled, ListDue}

@@ -1,6 +1,6 @@
 pub mod Answer
 pub mod Decide
 pub mod Location
-pub mod Meaning
 pub mod SameKept
 pub mod SameLabel
+pub mod code

@@ -2,8 +2,7 @@
 use mathlib.Core.List.{[], _∷_}
 use mathlib.Core.Option.{Option, none, some, Option·getD}
 use Rattle.ascii.specs.Ascii.{Bytes, _>>=_}
-use Rattle.fetch_record.specs.Record.{Redirect, lastLocation, readRecord}
-use Rattle.fetch_record.specs.Meaning.{lastHop}
+use Rattle.fetch_record.specs.Record.{Redirect, lastLocation, readRecord, lastHop}
 use Rattle.decision.specs.Answer.{rule1, rule2, rule3, rule4, fetch, refused}
 use Rattle.decision.specs.Decide.{Stage, settled, listDue, beforeList}
 

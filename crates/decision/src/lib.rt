@@ -9,8 +9,9 @@ use trusted_list::Selection;
 ghost use mathlib.Core.Path.{_≡_};
 ghost use Rattle.decision.specs.Decide.{isBadAppId, byFetch, beforeList, firstMatch, byPlace, byList, decide, listDue};
 ghost use Rattle.decision.specs.Location.{fetchFrom, fetchLocation, sourceFrom, fetchSource};
-ghost use Rattle.decision.specs.Meaning.{answerOf, stageOf, IdsThere, entriesAt, matchOf, PartIs, StepIs, Owned, byEntries, Locates};
-ghost use Rattle.fetch_record.specs.Meaning.{outcomeOf, answerOf as responseOf, lastHop};
+ghost use Rattle.decision.specs.code.Meaning.{answerOf, stageOf, IdsThere, entriesAt, matchOf, PartIs, StepIs, Owned, byEntries, Locates};
+ghost use Rattle.fetch_record.specs.code.Meaning.{outcomeOf, answerOf as responseOf};
+ghost use Rattle.fetch_record.specs.Record.{lastHop};
 ghost use Rattle.causes.specs.Causes.{kept};
 
 pub enum Answer {

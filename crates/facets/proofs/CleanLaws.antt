@@ -10,7 +10,7 @@ use Rattle.ascii.specs.Ascii.{Bytes}
 use Rattle.refusals.specs.declared.Refusal.{Refusal}
 use Rattle.refusals.specs.Number.{refusalNumber}
 use Rattle.cleaning.specs.Clean.{Cleaned, notCleaned, cleaned, clean, cleanedLength, outputAfter}
-use Rattle.cleaning.specs.Meaning.{Cleans, refuses, writes}
+use Rattle.cleaning.specs.code.Meaning.{Cleans, refuses, writes}
 use Rattle.cleaning.specs.declared.Output.{Output}
 use Rattle.cleaning.specs.declared.Output.the-variants.{Refused, Length}
 use Rattle.cleaning.proofs.ListLaws.{cleaned-small}

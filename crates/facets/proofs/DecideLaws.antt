@@ -10,7 +10,7 @@ use Rattle.refusals.specs.declared.Refusal.the-variants.{Stranger, BadAppId, Fo
 use Rattle.refusals.specs.Number.{refusalNumber}
 use Rattle.decision.specs.Answer.{rule4, answerNumber}
 use Rattle.decision.specs.Decide.{decide}
-use Rattle.decision.specs.Meaning.{answerOf}
+use Rattle.decision.specs.code.Meaning.{answerOf}
 use Rattle.decision.specs.declared.Answer.{Answer}
 use Rattle.decision.specs.declared.Answer.the-variants.{Rule1, Rule2, Rule3, Rule4, Fetch, Refused}
 use Rattle.decision.proofs.Padding.{padding-decision}

@@ -14,12 +14,11 @@ use borrow.Author.Tests.{ltb-false}
 use Rattle.ascii.specs.Ascii.{Bytes, if_then_else_, _>>=_, isNone, lastOf}
 use Rattle.origin.specs.Origin.{beginsHttps, httpsUrl, isFacet}
 use Rattle.refusals.specs.declared.Refusal.the-variants.{Stranger, BadAppId}
-use Rattle.fetch_record.specs.Record.{Redirect, Fetched, location, lastLocation, lastRedirect, readRecord}
-use Rattle.fetch_record.specs.Meaning.{lastHop}
+use Rattle.fetch_record.specs.Record.{Redirect, Fetched, location, lastLocation, lastRedirect, readRecord, lastHop}
 use Rattle.decision.specs.Answer.{rule1, rule2, rule3, rule4, fetch, refused}
 use Rattle.decision.specs.Decide.{Stage, settled, listDue, isBadAppId, beforeList}
 use Rattle.decision.specs.Location.{fetchFrom, ifFetch, fetchLocation, Source, nowhere, theAppId, redirect, sourceFrom, sourceIfFetch, fetchSource}
-use Rattle.decision.specs.Meaning.{Stands, at-nowhere, at-app, at-hop, Locates}
+use Rattle.decision.specs.code.Meaning.{Stands, at-nowhere, at-app, at-hop, Locates}
 use Rattle.decision.specs.declared.Location.{Location}
 use Rattle.decision.specs.declared.Location.the-variants.{Nothing, AppId, Text}
 use Rattle.facets.specs.Located.{sourceNumber, sourceStart, sourceLength, named}

@@ -4,7 +4,7 @@ use Prim.Native.Nat.{ℕ}
 use Rattle.refusals.specs.declared.Refusal.{Refusal}
 use Rattle.refusals.specs.Number.{refusalNumber}
 use Rattle.tally.specs.Tally.{Tally, notTallied, tallied}
-use Rattle.tally.specs.Meaning.{countsOf, tallyOf}
+use Rattle.tally.specs.code.Meaning.{countsOf, tallyOf}
 use Rattle.tally.specs.declared.Counts.{Counts as Held}
 use Rattle.tally.specs.declared.Tallied.{Tallied}
 use Rattle.tally.specs.declared.Tallied.the-variants.{Refused, Counted}

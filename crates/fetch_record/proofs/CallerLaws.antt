@@ -10,7 +10,7 @@ use Rattle.refusals.specs.declared.Refusal.{Refusal}
 use Rattle.refusals.specs.declared.Refusal.the-variants.{BadRecord}
 use Rattle.fetch_record.specs.Record.{Redirect, Answer, Fetched, readEnd, readItems, readRecord, hopRefusal, lastLocation}
 use Rattle.fetch_record.specs.Fetching.{Fetching, refused, fetch, answered, afterHops, byRecord, fetching}
-use Rattle.fetch_record.specs.Meaning.{answerOf, outcomeOf, target, partIn, TargetPlaced, target-in, Targets}
+use Rattle.fetch_record.specs.code.Meaning.{answerOf, outcomeOf, target, partIn, TargetPlaced, target-in, Targets}
 use Rattle.fetch_record.specs.declared.item.Answer.{Answer as AnswerItem}
 use Rattle.fetch_record.specs.declared.Outcome.{Outcome}
 use Rattle.fetch_record.specs.declared.Outcome.the-variants.{Refused, Fetch, Answered as Settled}

@@ -12,15 +12,15 @@ use lib.Seq.{drop-at}
 use borrow.Author.Tests.{leb-true}
 use Rattle.ascii.specs.Ascii.{Bytes, if_then_else_, _orElse_, isNone, all, lastOf}
 use Rattle.origin.specs.Origin.{httpsUrl}
-use Rattle.origin.specs.Parts.{Reads, authorityIn}
+use Rattle.origin.specs.code.Parts.{Reads, authorityIn}
 use Rattle.origin.specs.declared.Parts.{Parts}
 use Rattle.origin.specs.declared.Reading.{Reading}
 use Rattle.origin.specs.declared.Reading.the-variants.{Found, Malformed as NoUrl}
 use Rattle.refusals.specs.declared.Refusal.{Refusal}
 use Rattle.refusals.specs.declared.Refusal.the-variants.{BadRecord, OpenRedirect, BadLocation}
-use Rattle.fetch_record.specs.Record.{Redirect, inText, location, lastLocation, lastRedirect, readRecord, hopRefusal}
+use Rattle.fetch_record.specs.Record.{Redirect, inText, location, lastLocation, lastRedirect, readRecord, hopRefusal, lastHop}
 use Rattle.fetch_record.specs.Fetching.{afterHops, byRecord, fetching}
-use Rattle.fetch_record.specs.Meaning.{redirectOf, answerOf, redirectIn, redirectAt, redirectsIn, Placed, layoutRead, LayoutPlaced, without, with-answer, Lays, hopsRead, afterHopsOf, outcomeOf, target, lastHop, partIn, no-target, target-in, TargetOf, of-none, of-hop, Targets}
+use Rattle.fetch_record.specs.code.Meaning.{redirectOf, answerOf, redirectIn, redirectAt, redirectsIn, Placed, layoutRead, LayoutPlaced, without, with-answer, Lays, hopsRead, afterHopsOf, outcomeOf, target, partIn, no-target, target-in, TargetOf, of-none, of-hop, Targets}
 use Rattle.fetch_record.specs.declared.item.Redirect.{Redirect as RedirectItem}
 use Rattle.fetch_record.specs.declared.item.Answer.{Answer as AnswerItem}
 use Rattle.fetch_record.specs.declared.Layout.{Layout}

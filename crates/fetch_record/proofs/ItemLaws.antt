@@ -10,7 +10,7 @@ use lib.Dec.{eqb, leb}
 use borrow.Author.Tests.{lt-leb, le-leb}
 use Rattle.ascii.specs.Ascii.{Bytes, if_then_else_, between}
 use Rattle.fetch_record.specs.Record.{Redirect, number, readRedirect, readAnswer}
-use Rattle.fetch_record.specs.Meaning.{redirectOf, answerOf, redirectRead, answerRead, redirectIn}
+use Rattle.fetch_record.specs.code.Meaning.{redirectOf, answerOf, redirectRead, answerRead, redirectIn}
 use Rattle.fetch_record.specs.declared.item.Redirect.{Redirect as RedirectItem}
 use Rattle.fetch_record.specs.declared.item.RedirectBody.the-variants.{Redirect as IsRedirect, Malformed as NoRedirectBody}
 use Rattle.fetch_record.specs.declared.item.AnswerBody.the-variants.{Answer as IsAnswer, Malformed as NoAnswerBody}

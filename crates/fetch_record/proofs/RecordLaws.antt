@@ -14,7 +14,7 @@ use mir.Val.{Fits}
 use borrow.Author.Tests.{eq-eqb, ne-eqb, eqb-true, lt-leb, le-leb}
 use Rattle.ascii.specs.Ascii.{Bytes, if_then_else_, _>>=_, all, isEmpty, beginsWith}
 use Rattle.fetch_record.specs.Record.{Redirect, Answer, Fetched, readRedirect, readAnswer, readEnd, inFront, readItems, inText, readRecord}
-use Rattle.fetch_record.specs.Meaning.{redirectOf, redirectRead, answerRead, redirectIn, redirectAt, redirectsIn, Placed, endRead, behind, frontRead, FrontPlaced, no-front, front, Counts, layoutRead, no-layout, without, with-answer, Lays}
+use Rattle.fetch_record.specs.code.Meaning.{redirectOf, redirectRead, answerRead, redirectIn, redirectAt, redirectsIn, Placed, endRead, behind, frontRead, FrontPlaced, no-front, front, Counts, layoutRead, no-layout, without, with-answer, Lays}
 use Rattle.fetch_record.specs.declared.item.Redirect.{Redirect as RedirectItem}
 use Rattle.fetch_record.specs.declared.item.Answer.{Answer as AnswerItem}
 use Rattle.fetch_record.specs.declared.item.RedirectBody.{RedirectBody}

@@ -1,3 +1,3 @@
 pub mod Record
 pub mod Fetching
-pub mod Meaning
+pub mod code

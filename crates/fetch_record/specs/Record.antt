@@ -95,3 +95,7 @@ hopRefusal lent (h ∷ hs) =
     if not (h .authorized) then some OpenRedirect else
     if isNone (httpsUrl (location lent h)) then some BadLocation else
     hopRefusal lent hs
+
+-- the last redirect of the record; none where there is none, or the record is bad
+unfoldable pub lastHop : Bytes → Bytes → Option Redirect
+lastHop items lent = readRecord items lent >>= λ f. lastRedirect (f .redirects)

@@ -3,7 +3,7 @@ ghost use mathlib.Core.Path.{_≡_};
 ghost use Prim.Native.Nat.{_+_, _*_, _≤_};
 ghost use lib.ListN.{length};
 ghost use Rattle.fetch_record.specs.Record.{readRedirect, readAnswer};
-ghost use Rattle.fetch_record.specs.Meaning.{redirectOf, redirectRead, answerRead, redirectIn};
+ghost use Rattle.fetch_record.specs.code.Meaning.{redirectOf, redirectRead, answerRead, redirectIn};
 
 // Kind 1, redirect: whether the authorized header was seen, and where its Location stands in the lent text.
 pub struct Redirect {

@@ -12,9 +12,9 @@ ghost use mathlib.Core.Bool.{true};
 ghost use mathlib.Core.List.{[], _∷_};
 ghost use Prim.Native.Nat.{_+_, _*_, _≤_};
 ghost use lib.ListN.{length};
-ghost use Rattle.fetch_record.specs.Record.{readEnd, inText, hopRefusal, lastLocation, lastRedirect};
+ghost use Rattle.fetch_record.specs.Record.{readEnd, inText, hopRefusal, lastLocation, lastRedirect, lastHop};
 ghost use Rattle.fetch_record.specs.Fetching.{fetching};
-ghost use Rattle.fetch_record.specs.Meaning.{redirectOf, redirectAt, redirectsIn, endRead, Placed, Counts, Lays, hopsRead, outcomeOf, afterHopsOf, target, lastHop, Targets};
+ghost use Rattle.fetch_record.specs.code.Meaning.{redirectOf, redirectAt, redirectsIn, endRead, Placed, Counts, Lays, hopsRead, outcomeOf, afterHopsOf, target, Targets};
 
 // What stands behind the redirects.
 enum End {

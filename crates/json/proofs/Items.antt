@@ -9,7 +9,7 @@ use Rattle.ascii.specs.Ascii.{Bytes}
 use Rattle.json_text.specs.Reader.{got, Reader, give, oneOf, _>>=_, _>>_, ifNext_then_else_}
 use Rattle.json_text.specs.Lexical.{ws}
 use Rattle.json.specs.Json.{items, listed}
-use Rattle.json_text.specs.Places.{Peeked, readAt, placeOf}
+use Rattle.json_text.specs.code.Places.{Peeked, readAt, placeOf}
 use Rattle.json_text.specs.declared.Next.{Next}
 use Rattle.json_text.specs.declared.Next.the-variants.{At, Bad}
 use Rattle.json_text.proofs.Steps.{on, then-bad, one-yes, one-no, next-yes, next-no, give-at, counted-at, map-give, place-mapped, no-fall, peek-in, found, missed, is-one, not-one}

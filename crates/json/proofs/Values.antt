@@ -13,7 +13,7 @@ use Rattle.ascii.specs.Ascii.{Bytes, if_then_else_, isNone}
 use Rattle.json_text.specs.Reader.{Read, got, bad, Reader, more, fail, endOfText, word, ifNext_then_else_, _giving_, verbatim}
 use Rattle.json_text.specs.Lexical.{ws, readNumber, readString}
 use Rattle.json.specs.Json.{Json, literal, number, string, listed, readMember, readArray, readObject, valueOf, readValue, readText, valueRead, readJson}
-use Rattle.json_text.specs.Places.{Peeked, readAt, placeOf}
+use Rattle.json_text.specs.code.Places.{Peeked, readAt, placeOf}
 use Rattle.json_text.specs.declared.Next.{Next}
 use Rattle.json_text.specs.declared.Next.the-variants.{At, Bad}
 use Rattle.json_text.proofs.Steps.{on, then-bad, one-yes, one-no, next-no, give-at, fail-at, place-giving, place-verbatim, found, missed, is-one, not-one}

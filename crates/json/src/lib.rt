@@ -4,7 +4,7 @@ ghost use mathlib.Core.Path.{_≡_};
 ghost use mathlib.Core.Bool.{not};
 ghost use Rattle.ascii.specs.Ascii.{isNone, text};
 ghost use Rattle.json.specs.Json.{listed, readMember, readValue, readJson};
-ghost use Rattle.json_text.specs.Places.{readAt, placeOf};
+ghost use Rattle.json_text.specs.code.Places.{readAt, placeOf};
 
 // A value with at most `left` arrays and objects open together.
 pub fn skip_value(s: &[u8], from: usize, left: usize) -> Next

@@ -9,7 +9,7 @@ use Rattle.ascii.specs.Ascii.{Bytes, if_then_else_, between, among}
 use Rattle.json_text.specs.Reader.{Read, got, bad, Reader, more, behind, _>>=_, satisfy, fail, peek, ifNext_then_else_, lead_to_then_else_, mapped, _giving_, asWritten, verbatim, counted}
 use Rattle.json_text.specs.Utf8.{multibyteChar, encodeUtf8}
 use Rattle.json_text.specs.Lexical.{unescaped, escaped, readChar, readChars, readString}
-use Rattle.json_text.specs.Places.{Peeked, readAt, placeOf, pointOf}
+use Rattle.json_text.specs.code.Places.{Peeked, readAt, placeOf, pointOf}
 use Rattle.json_text.specs.declared.Next.{Next}
 use Rattle.json_text.specs.declared.Next.the-variants.{At, Bad}
 use Rattle.json_text.specs.declared.Point.{Point}

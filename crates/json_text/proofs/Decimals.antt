@@ -11,7 +11,7 @@ use lib.Dec.{leb}
 use lib.ListN.{length, getD, take, drop, drop-of-length-le}
 use lib.Seq.{drop-cons, take-nil}
 use Rattle.ascii.specs.Ascii.{Bytes, all, isDigit, value, valueFrom, number16, _when_}
-use Rattle.json_text.specs.Places.{numberOf}
+use Rattle.json_text.specs.code.Places.{numberOf}
 use Rattle.json_text.specs.declared.Number.the-variants.{Is, Other}
 use Rattle.json_text.proofs.Steps.{inside, under, above}
 

@@ -13,7 +13,7 @@ use borrow.Author.Tests.{lt-ltb, le-ltb, leb-true, leb-false}
 use Rattle.ascii.specs.Ascii.{Bytes, if_then_else_, between}
 use Rattle.json_text.specs.Reader.{got, bad, more, behind, _>>=_, satisfy, word, give, lead_to_then_else_}
 use Rattle.json_text.specs.Lexical.{hexValue, hexDigit, hex4, lowAfter, codePoint, escaped}
-use Rattle.json_text.specs.Places.{Peeked, readAt, placeOf, pointOf}
+use Rattle.json_text.specs.code.Places.{Peeked, readAt, placeOf, pointOf}
 use Rattle.json_text.specs.declared.Next.{Next}
 use Rattle.json_text.specs.declared.Next.the-variants.{At, Bad}
 use Rattle.json_text.specs.declared.Point.{Point}

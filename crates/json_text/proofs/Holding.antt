@@ -14,7 +14,7 @@ use Rattle.ascii.specs.Ascii.{Bytes, if_then_else_, same}
 use Rattle.json_text.specs.Reader.{Read, got, bad, Reader, more, mapped, asWritten, verbatim}
 use Rattle.json_text.specs.Utf8.{encodeUtf8}
 use Rattle.json_text.specs.Lexical.{unescaped, escaped, readChar, readChars, readString}
-use Rattle.json_text.specs.Places.{Peeked, readAt, placeOf, pointOf, fit, content, contentOf, push, pushRead, held, isText, Holds, Puts, PutsRead, is-on, is-stuck}
+use Rattle.json_text.specs.code.Places.{Peeked, readAt, placeOf, pointOf, fit, content, contentOf, push, pushRead, held, isText, Holds, Puts, PutsRead, is-on, is-stuck}
 use Rattle.json_text.specs.declared.Decoded.{Decoded}
 use Rattle.json_text.specs.declared.Text.{Text}
 use Rattle.json_text.specs.declared.Progress.{Progress}

@@ -9,7 +9,7 @@ use borrow.Author.Tests.{le-leb}
 use Rattle.ascii.specs.Ascii.{Bytes, isDigit, text}
 use Rattle.json_text.specs.Reader.{got, many, oneOf, optional}
 use Rattle.json_text.specs.Lexical.{digits, int, frac, exp, readNumber}
-use Rattle.json_text.specs.Places.{Peeked, readAt, placeOf}
+use Rattle.json_text.specs.code.Places.{Peeked, readAt, placeOf}
 use Rattle.json_text.specs.declared.Next.{Next}
 use Rattle.json_text.specs.declared.Next.the-variants.{At, Bad}
 use Rattle.json_text.proofs.Steps.{on, then-bad, one-yes, one-no, or-first, or-second, give-at, found, missed, inside, under, above, is-one, not-one, one-of, none-of}

@@ -8,7 +8,7 @@ use Rattle.ascii.specs.Ascii.{Bytes}
 use Rattle.json_text.specs.Reader.{bad, Reader, _>>=_, _>>_, byteRange, lead_to_then_else_}
 use Rattle.json_text.specs.Utf8.{utf8Tail, thenTail, thenTails, multibyteChar}
 use Rattle.json_text.specs.Lexical.{unescaped}
-use Rattle.json_text.specs.Places.{Peeked, readAt, placeOf}
+use Rattle.json_text.specs.code.Places.{Peeked, readAt, placeOf}
 use Rattle.json_text.specs.declared.Next.{Next}
 use Rattle.json_text.specs.declared.Next.the-variants.{At, Bad}
 use Rattle.json_text.proofs.Steps.{on, then-bad, one-yes, one-no, lead-yes, lead-no, give-at, fail-at, found, missed, inside, under, above}

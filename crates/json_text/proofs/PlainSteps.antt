@@ -13,8 +13,8 @@ use Rattle.ascii.specs.Ascii.{Bytes, if_then_else_, between}
 use Rattle.json_text.specs.Reader.{Read, got, bad, Reader, more, behind, _>>=_, _>>_, give, fail, peek, satisfy, byteRange, countWhile, many, lead_to_then_else_, mapped}
 use Rattle.json_text.specs.Utf8.{utf8Tail, thenTail, thenTails, multibyteChar}
 use Rattle.json_text.specs.Lexical.{unescaped, readChar, readChars, readString}
-use Rattle.json_text.specs.Places.{Peeked, readAt, placeOf}
-use Rattle.json_text.specs.PlainString.{isPlain, isAsciiChar, AsciiString, is-short, is-unknown, in-text, no-place, is-plain, is-other, PlainIs}
+use Rattle.json_text.specs.code.Places.{Peeked, readAt, placeOf}
+use Rattle.json_text.specs.code.PlainString.{isPlain, isAsciiChar, AsciiString, is-short, is-unknown, in-text, no-place, is-plain, is-other, PlainIs}
 use Rattle.json_text.specs.declared.Next.{Next}
 use Rattle.json_text.specs.declared.Next.the-variants.{At, Bad}
 use Rattle.json_text.proofs.Steps.{on, then-bad, one-yes, one-no, counted-at, is-one, not-one, fail-at, inside, under, above, between-tells}

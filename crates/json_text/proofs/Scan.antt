@@ -10,7 +10,7 @@ use lib.Seq.{drop-cons}
 use native.Mathlib.Nat.{add-zero}
 use Rattle.ascii.specs.Ascii.{Bytes}
 use Rattle.json_text.specs.Reader.{Read, got, more, many, countWhile}
-use Rattle.json_text.specs.Places.{readAt}
+use Rattle.json_text.specs.code.Places.{readAt}
 
 module _ (f : ℕ → Bool) (s : Bytes) (i : ℕ) {g : Read (Unit {0})} (e : readAt (many f) s i ≡ g) where
   pub scan-end : length s ≤ i → g ≡ got tt i

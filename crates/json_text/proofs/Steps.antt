@@ -15,7 +15,7 @@ use lib.ListN.{length, getD, drop, drop-of-length-le}
 use lib.Seq.{drop-cons, drop-drop}
 use Rattle.ascii.specs.Ascii.{Bytes, if_then_else_, between, among}
 use Rattle.json_text.specs.Reader.{Read, got, bad, Reader, more, behind, _>>=_, give, fail, peek, satisfy, ifNext_then_else_, lead_to_then_else_, eitherRead, _or_, mapped, _giving_, asWritten, verbatim, counted}
-use Rattle.json_text.specs.Places.{Peeked, readAt, placeOf, pointOf}
+use Rattle.json_text.specs.code.Places.{Peeked, readAt, placeOf, pointOf}
 use Rattle.json_text.specs.declared.Next.{Next}
 use Rattle.json_text.specs.declared.Next.the-variants.{At, Bad}
 use Rattle.json_text.specs.declared.Point.{Point}

@@ -8,7 +8,7 @@ use lib.ListN.{length, getD, drop, drop-of-length-le}
 use lib.Seq.{drop-cons}
 use Rattle.ascii.specs.Ascii.{Bytes}
 use Rattle.json_text.specs.Reader.{word}
-use Rattle.json_text.specs.Places.{Peeked, readAt, placeOf}
+use Rattle.json_text.specs.code.Places.{Peeked, readAt, placeOf}
 use Rattle.json_text.specs.declared.Next.{Next}
 use Rattle.json_text.specs.declared.Next.the-variants.{At, Bad}
 use Rattle.json_text.proofs.Steps.{on, then-bad, one-yes, one-no, give-at, is-one, not-one}

@@ -1,5 +1,4 @@
 pub mod Reader
 pub mod Utf8
 pub mod Lexical
-pub mod Places
-pub mod PlainString
+pub mod code

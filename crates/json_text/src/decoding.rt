@@ -14,7 +14,7 @@ ghost use Prim.Native.Nat.{_-_};
 ghost use lib.ListN.{take, drop};
 ghost use Rattle.json_text.specs.Utf8.{encodeUtf8};
 ghost use Rattle.json_text.specs.Lexical.{readChar, readString};
-ghost use Rattle.json_text.specs.Places.{readAt, placeOf, content, contentOf, isText, Holds, Puts, PutsRead};
+ghost use Rattle.json_text.specs.code.Places.{readAt, placeOf, content, contentOf, isText, Holds, Puts, PutsRead};
 
 // A wrong string.
 fn no_text() -> Decoded

@@ -5,7 +5,7 @@ use super::byte_at;
 use super::skip_word;
 ghost use mathlib.Core.Path.{_≡_};
 ghost use Rattle.json_text.specs.Lexical.{hexValue, hex4, codePoint, escaped};
-ghost use Rattle.json_text.specs.Places.{readAt, pointOf};
+ghost use Rattle.json_text.specs.code.Places.{readAt, pointOf};
 
 // The value of a hexadecimal digit; 16 for any other byte.
 fn hex_digit(b: u16) -> u32

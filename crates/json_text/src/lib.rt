@@ -9,7 +9,7 @@ ghost use mathlib.Core.Path.{_≡_};
 ghost use Prim.Native.Nat.{_<_};
 ghost use Rattle.json_text.specs.Reader.{got, word};
 ghost use Rattle.json_text.specs.Lexical.{isBlank, ws};
-ghost use Rattle.json_text.specs.Places.{Peeked, readAt, placeOf};
+ghost use Rattle.json_text.specs.code.Places.{Peeked, readAt, placeOf};
 
 // The place behind what was read; or the bytes are wrong.
 pub enum Next {

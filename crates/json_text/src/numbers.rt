@@ -9,7 +9,7 @@ ghost use lib.ListN.{take, drop};
 ghost use Rattle.ascii.specs.Ascii.{isDigit, number16, text};
 ghost use Rattle.json_text.specs.Reader.{got, many, oneOf, optional};
 ghost use Rattle.json_text.specs.Lexical.{digits, int, frac, exp, readNumber};
-ghost use Rattle.json_text.specs.Places.{readAt, placeOf, numberOf};
+ghost use Rattle.json_text.specs.code.Places.{readAt, placeOf, numberOf};
 
 // Two comparisons: the class table of `ascii` would be copied for each byte.
 fn is_digit(b: u8) -> bool

@@ -7,8 +7,8 @@ use super::unescaped::skip_unescaped;
 ghost use mathlib.Core.Path.{_≡_};
 ghost use Rattle.json_text.specs.Reader.{got, many, counted};
 ghost use Rattle.json_text.specs.Lexical.{readChar, readChars, readString};
-ghost use Rattle.json_text.specs.Places.{readAt, placeOf};
-ghost use Rattle.json_text.specs.PlainString.{isAsciiChar, AsciiString, PlainIs};
+ghost use Rattle.json_text.specs.code.Places.{readAt, placeOf};
+ghost use Rattle.json_text.specs.code.PlainString.{isAsciiChar, AsciiString, PlainIs};
 
 fn skip_char(s: &[u8], from: usize) -> Next
     ensures { λ r. ⌜ r ≡ placeOf (readAt readChar (now (s .entry)) from) ⌝ }

@@ -6,7 +6,7 @@ ghost use mathlib.Core.Path.{_≡_};
 ghost use Rattle.json_text.specs.Reader.{byteRange};
 ghost use Rattle.json_text.specs.Utf8.{thenTail, thenTails, multibyteChar};
 ghost use Rattle.json_text.specs.Lexical.{unescaped};
-ghost use Rattle.json_text.specs.Places.{readAt, placeOf};
+ghost use Rattle.json_text.specs.code.Places.{readAt, placeOf};
 
 // A byte from lo to hi.
 fn skip_range(s: &[u8], from: usize, lo: u8, hi: u8) -> Next

@@ -13,8 +13,8 @@ use Rattle.suffix.specs.Host.{isHost, isLabelByte}
 use Rattle.suffix.proofs.Case.{is-byte, is-label-byte, lower-lower, map-map-eq, all-lower, is-host}
 use Rattle.origin.specs.Origin.{Authority, beginsHttps, isPort, readPort, isHostByte, readHost, readHttps, webOrigin, isNative, isFacet, shownPort, normalWeb, normalOf, normalForm}
 use Rattle.origin.specs.Matching.{sameHost, facetMatches}
-use Rattle.origin.specs.Parts.{isHidden}
-use Rattle.origin.specs.Normals.{effectivePort, normalAuthority}
+use Rattle.origin.specs.code.Parts.{isHidden}
+use Rattle.origin.specs.code.Normals.{effectivePort, normalAuthority}
 use Rattle.origin.proofs.Origins.{origin-read, same-eq, port-digits, native-no-web, facet-short-enough}
 
 -- ---- the two kinds

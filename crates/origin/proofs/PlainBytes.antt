@@ -13,7 +13,7 @@ use Rattle.ascii.proofs.Bytes.{each}
 use Rattle.ascii.proofs.ListLaws.{all-append}
 use Rattle.suffix.specs.Host.{isLabelByte}
 use Rattle.origin.specs.Origin.{Authority, androidPrefix, iosPrefix, isPort, isHostByte, webOrigin, isKeyHashByte, isAndroid, isIos, isNative, isFacet, shownPort, normalWeb, normalForm}
-use Rattle.origin.specs.Normals.{isPlainByte}
+use Rattle.origin.specs.code.Normals.{isPlainByte}
 use Rattle.origin.proofs.Origins.{ReadOf, origin-read, port-digits, begins-split, facet-native-else}
 use Rattle.origin.proofs.NormalForms.{own-normal, web-normal, lower-bytes}
 

@@ -11,7 +11,7 @@ use lib.Seq.{drop-cons}
 use lib.Dec.{leb}
 use borrow.Author.Tests.{ne-eqb, lt-leb, le-leb, leb-true, leb-false}
 use Rattle.ascii.specs.Ascii.{Bytes, if_then_else_, _>>=_, _when_, isEmpty, all, takeWhile, isDigit, same, sameNoCase, beginsWith, beginsWithNoCase, text, value, valueFrom, number16}
-use Rattle.ascii.specs.Numbers.{numberOf}
+use Rattle.ascii.specs.code.Numbers.{numberOf}
 use Rattle.ascii.specs.declared.decimals.Number.{Number}
 use Rattle.ascii.specs.declared.decimals.Number.the-variants.{Value, Malformed as NoNumber}
 use Rattle.ascii.proofs.Compare.{begins-no-case-short}
@@ -20,7 +20,7 @@ use Rattle.suffix.specs.Host.{isHost}
 use Rattle.suffix.proofs.Places.{rest-whole}
 use Rattle.origin.specs.Origin.{Authority, beginsHttps, isPort, readPort, isHostByte, readHost, readHttps, webOrigin, isNative, isFacet, isTail, httpsUrl}
 use Rattle.origin.specs.Matching.{sameHost, facetMatches}
-use Rattle.origin.specs.Parts.{part, authorityIn, Inside, Within, nowhere, within, Reads, portOf, withoutPort, HostEnd, isEnd}
+use Rattle.origin.specs.code.Parts.{part, authorityIn, Inside, Within, nowhere, within, Reads, portOf, withoutPort, HostEnd, isEnd}
 use Rattle.origin.specs.declared.Parts.{Parts}
 use Rattle.origin.specs.declared.Reading.{Reading}
 use Rattle.origin.specs.declared.Reading.the-variants.{Found, Malformed}

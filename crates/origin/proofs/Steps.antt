@@ -9,13 +9,13 @@ use lib.Dec.{eqb, leb, ltb}
 use borrow.Author.Tests.{eq-eqb, ne-eqb, lt-leb, le-leb, lt-ltb, le-ltb, eqb-true, eqb-false}
 use Rattle.ascii.specs.Ascii.{Bytes, if_then_else_, all, takeWhile, isDigit, isLetter, isUpper, same, beginsWith, beginsWithNoCase, text, number16}
 use Rattle.ascii.specs.Class.{classOf, Classifies}
-use Rattle.ascii.specs.Numbers.{numberOf}
+use Rattle.ascii.specs.code.Numbers.{numberOf}
 use Rattle.ascii.specs.declared.decimals.Number.{Number}
 use Rattle.ascii.specs.declared.decimals.Number.the-variants.{Malformed}
 use Rattle.ascii.proofs.Bytes.{agree}
 use Rattle.suffix.specs.Host.{isLabelByte}
 use Rattle.origin.specs.Origin.{beginsHttps, androidPrefix, iosPrefix, beginsNative, isHostByte, isKeyHashByte, isAndroid, isIos, isNative, isTailByte, isTail}
-use Rattle.origin.specs.Parts.{portOf, isEnd, beginsTail}
+use Rattle.origin.specs.code.Parts.{portOf, isEnd, beginsTail}
 
 -- ---- prefixes
 

@@ -16,7 +16,7 @@ use Rattle.ascii.proofs.OptionLaws.{Holds, holds}
 use Rattle.suffix.specs.Host.{isHost, isLabelByte}
 use Rattle.origin.specs.Origin.{Authority, beginsHttps, isPort, readPort, isHostByte, readHost, readHttps, webOrigin}
 use Rattle.origin.specs.Matching.{sameHost, facetMatches}
-use Rattle.origin.specs.Unlike.{isStop, mayEnd, apart, unlike}
+use Rattle.origin.specs.code.Unlike.{isStop, mayEnd, apart, unlike}
 
 -- ---- the tests of the code
 

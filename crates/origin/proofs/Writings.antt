@@ -15,7 +15,7 @@ use Rattle.ascii.specs.Ascii.{Bytes, if_then_else_, isEmpty, lowerByte, lower, 
 use Rattle.ascii.proofs.Compare.{length-lower}
 use Rattle.suffix.proofs.Places.{getD-lower}
 use Rattle.origin.specs.Origin.{Authority, webOrigin, shownPort, normalWeb, normalOf, normalForm}
-use Rattle.origin.specs.Parts.{part, authorityIn, Reads, isHidden, Placed, webAt, writtenAt, behind, Wrote}
+use Rattle.origin.specs.code.Parts.{part, authorityIn, Reads, isHidden, Placed, webAt, writtenAt, behind, Wrote}
 use Rattle.origin.specs.declared.Parts.{Parts}
 use Rattle.origin.specs.declared.Reading.{Reading}
 use Rattle.origin.specs.declared.Reading.the-variants.{Found, Malformed}

@@ -1,5 +1,3 @@
 pub mod Origin
 pub mod Matching
-pub mod Parts
-pub mod Normals
-pub mod Unlike
+pub mod code

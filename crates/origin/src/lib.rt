@@ -9,8 +9,8 @@ ghost use Rattle.ascii.specs.Ascii.{isDigit, takeWhile};
 ghost use Rattle.ascii.specs.Class.{Classifies};
 ghost use Rattle.origin.specs.Origin.{beginsHttps, beginsNative, isHostByte, readPort, readHost, readHttps, webOrigin, isKeyHashByte, isAndroid, isIos, isNative, isFacet, isTailByte, isTail, httpsUrl};
 ghost use Rattle.origin.specs.Matching.{sameHost, facetMatches};
-ghost use Rattle.origin.specs.Unlike.{isStop, mayEnd, apart, unlike};
-ghost use Rattle.origin.specs.Parts.{part, isEnd, beginsTail, portOf, withoutPort, HostEnd, Reads};
+ghost use Rattle.origin.specs.code.Unlike.{isStop, mayEnd, apart, unlike};
+ghost use Rattle.origin.specs.code.Parts.{part, isEnd, beginsTail, portOf, withoutPort, HostEnd, Reads};
 
 // Where the parts of a text that begins `https://` stand: the host from 8 to end, then the port, then what is
 // left from tail on. The port is its number, 0 where it is absent.

@@ -5,7 +5,7 @@ ghost use Prim.Native.Nat.{_+_};
 ghost use lib.ListN.{length};
 ghost use Rattle.ascii.specs.Ascii.{lower};
 ghost use Rattle.origin.specs.Origin.{shownPort, normalForm};
-ghost use Rattle.origin.specs.Parts.{part, isHidden, webAt, Placed, Wrote};
+ghost use Rattle.origin.specs.code.Parts.{part, isHidden, webAt, Placed, Wrote};
 
 // The bytes x written into out at a place, where there is room for them all.
 // Returns the place behind them, or the same place where there is no room.

@@ -12,11 +12,11 @@ use borrow.Author.Tests.{lt-leb, le-leb, lt-ltb, ltb-true, ltb-false, leb-true, 
 use Rattle.ascii.specs.Ascii.{Bytes, if_then_else_, _>>=_, isNone, any, filterBy, takeWhile, lastOf, splitAt, joinWith, same, beginsWith}
 use Rattle.ascii.proofs.Scan.{scan-part}
 use Rattle.suffix.specs.Host.{labels, isHost, isAddress}
-use Rattle.suffix.specs.Place.{Stands, endsAtLabel}
-use Rattle.suffix.specs.Suffix.{Rule, normal, exceptional, content, isSkipped, readRule, readLines, readTable, allMatch, matches, privateLabel}
-use Rattle.suffix.specs.Pass.{maxLabels, sizes, bestOf, oneRule, readLine, inLine, inContent, sizeOf, orEmpty, LabelAt}
-use Rattle.suffix.specs.Deeper.{goesDeeper, deeperIn, isDeeper}
-use Rattle.suffix.specs.Depth.{depthOf, deepest, lineDepth, linesDepth, depthsOf, Good, Past, deeperThan, LabelFound, OwnerIs, bad-table, owner-is}
+use Rattle.suffix.specs.code.Place.{Stands, endsAtLabel}
+use Rattle.suffix.specs.Suffix.{Rule, normal, exceptional, content, isSkipped, readRule, readLines, readTable, allMatch, matches, privateLabel, orEmpty}
+use Rattle.suffix.specs.code.Pass.{maxLabels, sizes, bestOf, oneRule, readLine, inLine, inContent, sizeOf, LabelAt}
+use Rattle.suffix.specs.code.Deeper.{goesDeeper, deeperIn, isDeeper}
+use Rattle.suffix.specs.code.Depth.{depthOf, deepest, lineDepth, linesDepth, depthsOf, Good, Past, deeperThan, LabelFound, OwnerIs, bad-table, owner-is}
 use Rattle.suffix.specs.declared.Best.{Best}
 use Rattle.suffix.specs.declared.Best.the-variants.{Bad, Sizes}
 use Rattle.suffix.specs.declared.Owner.{Owner}

@@ -13,14 +13,14 @@ use Rattle.ascii.specs.Ascii.{Bytes, if_then_else_, takeWhile, lastOf, isUpper,
 use Rattle.ascii.proofs.Scan.{scan-to}
 use Rattle.ascii.proofs.Split.{join-split}
 use Rattle.suffix.specs.Host.{labels, isLabelByte, isHost}
-use Rattle.suffix.specs.Place.{Stands, isBoundary, endsAtLabel}
+use Rattle.suffix.specs.code.Place.{Stands, isBoundary, endsAtLabel}
 use Rattle.suffix.specs.Suffix.{normal, isBlank, readRule, readLines}
-use Rattle.suffix.specs.Pass.{bestOf, joinBest, oneRule, readLine, inLine, inContent}
-use Rattle.suffix.specs.Depth.{lineDepth, linesDepth, Past}
-use Rattle.suffix.specs.Deeper.{goesDeeper}
+use Rattle.suffix.specs.code.Pass.{bestOf, joinBest, oneRule, readLine, inLine, inContent}
+use Rattle.suffix.specs.code.Depth.{lineDepth, linesDepth, Past}
+use Rattle.suffix.specs.code.Deeper.{goesDeeper}
 use Rattle.suffix.specs.declared.Best.{Best}
 use Rattle.suffix.specs.declared.Best.the-variants.{Sizes}
-use Rattle.suffix.specs.Idle.{Idle, Shallow, lastByte, isAlphanumeric}
+use Rattle.suffix.specs.code.Idle.{Idle, Shallow, lastByte, isAlphanumeric}
 use Rattle.suffix.proofs.Ends.{true-false, same-eq, labels-some, begin-labels, begin-is, ends-whole}
 use Rattle.suffix.proofs.Shapes.{host-empty}
 use Rattle.suffix.proofs.Lines.{no-host, rule-host, host-yes, host-no, begins-is, other-read, line-empty, line-comment}

@@ -12,7 +12,7 @@ use borrow.Author.Tests.{eq-eqb, ne-eqb, eqb-true, eqb-false, lt-leb, le-leb, lt
 use Rattle.ascii.specs.Ascii.{Bytes, if_then_else_, isDigit, isLetter, isUpper, lowerByte}
 use Rattle.ascii.specs.Class.{classOf, Classifies}
 use Rattle.ascii.proofs.Bytes.{agree}
-use Rattle.suffix.specs.Idle.{lastByte, isAlphanumeric, kindOf, KindsOf, stepOf, stopOf}
+use Rattle.suffix.specs.code.Idle.{lastByte, isAlphanumeric, kindOf, KindsOf, stepOf, stopOf}
 use Rattle.suffix.specs.declared.skips.Step.the-variants.{On, Off}
 use Rattle.suffix.specs.declared.skips.Stop.the-variants.{Host, Other}
 

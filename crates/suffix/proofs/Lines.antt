@@ -16,9 +16,9 @@ use borrow.Author.Tests.{eqb-true, lt-leb, le-leb, ltb-true, ltb-false}
 use Rattle.ascii.specs.Ascii.{Bytes, if_then_else_, _>>=_, all, filterBy, lastOf, joinHead, splitAt, isDigit, isLetter, isUpper, same, beginsWith}
 use Rattle.ascii.proofs.Split.{split-parts, split-other}
 use Rattle.suffix.specs.Host.{labels, isLabelByte, isLabel, isHost}
-use Rattle.suffix.specs.Place.{endsAtLabel}
+use Rattle.suffix.specs.code.Place.{endsAtLabel}
 use Rattle.suffix.specs.Suffix.{Rule, normal, exceptional, isSkipped, readRule, nameMatches, allMatch, matches}
-use Rattle.suffix.specs.Pass.{maxLabels, sizes, bestOf, oneRule, readLine}
+use Rattle.suffix.specs.code.Pass.{maxLabels, sizes, bestOf, oneRule, readLine}
 use Rattle.suffix.specs.declared.Best.{Best}
 use Rattle.suffix.specs.declared.Best.the-variants.{Bad, Sizes}
 use Rattle.suffix.proofs.Ends.{same-eq, labels-some, labels-few, match-labels, ends-fewer, ends-whole, wild, wild-few, wild-more}

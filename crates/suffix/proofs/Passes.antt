@@ -17,7 +17,7 @@ use Rattle.ascii.proofs.Scan.{while-stops, scan-rest, scan-part, scan-from, sca
 use Rattle.ascii.proofs.Split.{onFirst, split-while, on-first-end, on-first-here}
 use Rattle.suffix.specs.Host.{labels}
 use Rattle.suffix.specs.Suffix.{Rule, isBlank, content, isSkipped, readRule, readLines, readTable, matches}
-use Rattle.suffix.specs.Pass.{maxLabels, sizes, bestOf, joinBest, oneRule, readLine, inLine, inContent}
+use Rattle.suffix.specs.code.Pass.{maxLabels, sizes, bestOf, joinBest, oneRule, readLine, inLine, inContent}
 use Rattle.suffix.specs.declared.Best.{Best}
 use Rattle.suffix.specs.declared.Best.the-variants.{Bad, Sizes}
 

@@ -11,8 +11,8 @@ use borrow.Author.Tests.{eq-eqb, ne-eqb, eqb-true, eqb-false, lt-leb, le-leb, lt
 use Rattle.ascii.specs.Ascii.{Bytes, if_then_else_, all, takeWhile, joinHead, splitAt, isDigit, isLetter, isUpper}
 use Rattle.ascii.proofs.Split.{split-parts, split-other, onFirst, on-first-end, on-first-here}
 use Rattle.suffix.specs.Host.{labels, isLabelByte, isLabel, isHost}
-use Rattle.suffix.specs.Pass.{inLine, inContent}
-use Rattle.suffix.specs.Idle.{isAlphanumeric}
+use Rattle.suffix.specs.code.Pass.{inLine, inContent}
+use Rattle.suffix.specs.code.Idle.{isAlphanumeric}
 use Rattle.suffix.proofs.Ends.{true-false}
 use Rattle.suffix.proofs.Shapes.{shape-only, shaped-yes}
 use Rattle.suffix.proofs.Passes.{line-lf, line-other, content-lf, content-high}

@@ -16,11 +16,11 @@ use Rattle.ascii.specs.Ascii.{Bytes, if_then_else_, filterBy, takeWhile, lastOf
 use Rattle.ascii.specs.Class.{Classifies}
 use Rattle.ascii.proofs.Scan.{scan-end, scan-stop, scan-more, scan-from, scan-to}
 use Rattle.suffix.specs.Host.{labels}
-use Rattle.suffix.specs.Place.{Stands, endsAtLabel}
+use Rattle.suffix.specs.code.Place.{Stands, endsAtLabel}
 use Rattle.suffix.specs.Suffix.{Rule, readLines, readTable, matches}
-use Rattle.suffix.specs.Pass.{maxLabels, sizes, bestOf, joinBest, readLine, inLine, inContent}
-use Rattle.suffix.specs.Depth.{deepest, lineDepth, depthsOf, deepened}
-use Rattle.suffix.specs.Idle.{Idle, Skipped, blockEnd, lfAt, KindsOf, HostLine, Stopped, at-host, at-other, Passes, Shallow}
+use Rattle.suffix.specs.code.Pass.{maxLabels, sizes, bestOf, joinBest, readLine, inLine, inContent}
+use Rattle.suffix.specs.code.Depth.{deepest, lineDepth, depthsOf, deepened}
+use Rattle.suffix.specs.code.Idle.{Idle, Skipped, blockEnd, lfAt, KindsOf, HostLine, Stopped, at-host, at-other, Passes, Shallow}
 use Rattle.suffix.specs.declared.Best.{Best}
 use Rattle.suffix.specs.declared.Best.the-variants.{Bad, Sizes}
 use Rattle.suffix.specs.declared.Depths.{Depths}

@@ -15,9 +15,9 @@ use borrow.Author.Tests.{eq-eqb, ne-eqb, eqb-true, eqb-false, lt-ltb, le-ltb, lt
 use Rattle.ascii.specs.Ascii.{Bytes, if_then_else_, takeWhile, lowerByte}
 use Rattle.ascii.proofs.Scan.{scan-part}
 use Rattle.suffix.specs.Host.{labels}
-use Rattle.suffix.specs.Pass.{readLine, inLine}
-use Rattle.suffix.specs.Depth.{lineDepth}
-use Rattle.suffix.specs.Idle.{Idle, lastByte, isAlphanumeric, kindOf, KindsOf, stepOf, stopOf, HostLine, Stopped, at-host, at-other}
+use Rattle.suffix.specs.code.Pass.{readLine, inLine}
+use Rattle.suffix.specs.code.Depth.{lineDepth}
+use Rattle.suffix.specs.code.Idle.{Idle, lastByte, isAlphanumeric, kindOf, KindsOf, stepOf, stopOf, HostLine, Stopped, at-host, at-other}
 use Rattle.suffix.specs.declared.skips.Step.{Step}
 use Rattle.suffix.specs.declared.skips.Step.the-variants.{On, Off}
 use Rattle.suffix.specs.declared.skips.Stop.{Stop}

@@ -108,3 +108,8 @@ labelUnder rules host = privateLabels rules (labels host) >>= λ ls. some (joinW
 -- under this table; none where the host is malformed, the table bad, or no label exists
 unfoldable pub privateLabel : Bytes → Bytes → Option Bytes
 privateLabel table host = if isHost host then (readTable table >>= λ rules. labelUnder rules host) else none
+
+-- "an empty part where the host is malformed, the table is bad or too long, or no label exists"
+abbrev pub orEmpty : Option Bytes → Bytes
+orEmpty none = []
+orEmpty (some l) = l

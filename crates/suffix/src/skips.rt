@@ -8,9 +8,9 @@ ghost use lib.Dec.{eqb, ltb};
 ghost use Rattle.ascii.specs.Ascii.{if_then_else_, takeWhile, lastOf};
 ghost use Rattle.ascii.specs.Class.{Classifies};
 ghost use Rattle.suffix.specs.Host.{labels};
-ghost use Rattle.suffix.specs.Place.{Stands, endsAtLabel};
-ghost use Rattle.suffix.specs.Pass.{inLine};
-ghost use Rattle.suffix.specs.Idle.{Skipped, blockEnd, lfAt, lastByte, kindOf, KindsOf, stepOf, stopOf, Stopped, Passes, Shallow};
+ghost use Rattle.suffix.specs.code.Place.{Stands, endsAtLabel};
+ghost use Rattle.suffix.specs.code.Pass.{inLine};
+ghost use Rattle.suffix.specs.code.Idle.{Skipped, blockEnd, lfAt, lastByte, kindOf, KindsOf, stepOf, stopOf, Stopped, Passes, Shallow};
 
 // One byte on: where its line begins, and the byte's kind.
 pub enum Step {

@@ -5,13 +5,13 @@ use Prim.Native.Nat.{ℕ, _≤_}
 use lib.ListN.{length}
 use Rattle.ascii.specs.Ascii.{Bytes}
 use Rattle.refusals.specs.declared.Refusal.{Refusal}
-use Rattle.decision.specs.Meaning.{Owned, IdsThere, entriesAt}
-use Rattle.cleaning.specs.Meaning.{ListedAt, Prepares}
+use Rattle.decision.specs.code.Meaning.{Owned, IdsThere, entriesAt}
+use Rattle.cleaning.specs.code.Meaning.{ListedAt, Prepares}
 use Rattle.cleaning.specs.declared.Ready.{Ready}
 use Rattle.cleaning.specs.declared.Ready.the-variants.{Refused as NotReady, Listed}
 use Rattle.cleaning.proofs.PrepareLaws.{prepared-refusal, prepared-listed}
 use Rattle.tally.specs.Tally.{counts, orTally, tally}
-use Rattle.tally.specs.Meaning.{countsOf, tallyOf}
+use Rattle.tally.specs.code.Meaning.{countsOf, tallyOf}
 use Rattle.tally.specs.declared.Counts.{Counts as Held}
 use Rattle.tally.specs.declared.Tallied.the-variants.{Refused, Counted}
 

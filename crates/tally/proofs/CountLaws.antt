@@ -9,22 +9,22 @@ use lib.Dec.{eqb}
 use lib.ListN.{length, take, drop}
 use Rattle.ascii.specs.Ascii.{Bytes, if_then_else_, filterBy}
 use Rattle.json_text.specs.Lexical.{readString}
-use Rattle.json_text.specs.Places.{readAt, placeOf, content, contentOf, Holds}
-use Rattle.json_text.specs.PlainString.{PlainIs}
+use Rattle.json_text.specs.code.Places.{readAt, placeOf, content, contentOf, Holds}
+use Rattle.json_text.specs.code.PlainString.{PlainIs}
 use Rattle.json_text.specs.declared.Next.{Next}
 use Rattle.json_text.specs.declared.Next.the-variants.{At, Bad}
 use Rattle.json_text.specs.declared.Text.{Text}
-use Rattle.trusted_list.specs.Entries.{firstEntry, nextEntry, Coming}
+use Rattle.trusted_list.specs.code.Entries.{firstEntry, nextEntry, Coming}
 use Rattle.trusted_list.proofs.EntryLaws.{entries-come}
 use Rattle.causes.specs.Causes.{Cause, tooLong, otherScheme, notFacet, otherLabel, cause}
-use Rattle.causes.specs.Owner.{Judges, JudgesHeld, causeOf}
+use Rattle.causes.specs.code.Owner.{Judges, JudgesHeld, causeOf}
 use Rattle.causes.specs.declared.Verdict.{Verdict}
 use Rattle.causes.specs.declared.Verdict.the-variants.{Kept, TooLong, OtherScheme, NotFacet, OtherLabel}
-use Rattle.decision.specs.Meaning.{Owned, IdsThere, entriesAt}
+use Rattle.decision.specs.code.Meaning.{Owned, IdsThere, entriesAt}
 use Rattle.decision.proofs.EntrySteps.{Comes, string-spans, next-ahead, comes-at, nothing-comes, entries-at, no-string, end-is, held-is}
 use Rattle.decision.proofs.PlainEntry.{plain-ends, plain-cause}
 use Rattle.tally.specs.Tally.{causeNumber, Counts, countOf, counts}
-use Rattle.tally.specs.Meaning.{countsOf, one, plus, Under, Told, told, JudgedIs}
+use Rattle.tally.specs.code.Meaning.{countsOf, one, plus, Under, Told, told, JudgedIs}
 use Rattle.tally.specs.declared.Counts.{Counts as Held}
 use Rattle.tally.specs.declared.Judged.{Judged}
 use Rattle.tally.specs.declared.Judged.the-variants.{Wrong, Is}

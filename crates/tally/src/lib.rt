@@ -6,10 +6,10 @@ use refusals::Refusal;
 ghost use mathlib.Core.Path.{_≡_};
 ghost use Prim.Native.Nat.{_≤_};
 ghost use lib.ListN.{length};
-ghost use Rattle.causes.specs.Owner.{causeOf};
-ghost use Rattle.decision.specs.Meaning.{Owned, IdsThere, entriesAt};
+ghost use Rattle.causes.specs.code.Owner.{causeOf};
+ghost use Rattle.decision.specs.code.Meaning.{Owned, IdsThere, entriesAt};
 ghost use Rattle.tally.specs.Tally.{counts, tally};
-ghost use Rattle.tally.specs.Meaning.{countsOf, tallyOf, one, plus, Under, JudgedIs};
+ghost use Rattle.tally.specs.code.Meaning.{countsOf, tallyOf, one, plus, Under, JudgedIs};
 
 // Kept entries and each of the four causes.
 pub struct Counts {

@@ -11,13 +11,13 @@ use lib.ListN.{length, drop}
 use Rattle.ascii.specs.Ascii.{Bytes, if_then_else_, _>>=_ as _then_}
 use Rattle.json_text.specs.Reader.{Read, got, bad, Reader, _>>=_, _>>_, give, fail, oneOf, peek, ifNext_then_else_, mapped, counted}
 use Rattle.json_text.specs.Lexical.{ws, readString}
-use Rattle.json_text.specs.Places.{Peeked, readAt, placeOf}
+use Rattle.json_text.specs.code.Places.{Peeked, readAt, placeOf}
 use Rattle.json_text.specs.declared.Next.the-variants.{At, Bad}
 use Rattle.json_text.proofs.Steps.{on, then-bad, one-yes, one-no, next-yes, next-no, give-at, fail-at, giving-at, counted-at, is-one, not-one}
 use Rattle.json.specs.Json.{Json, string, array, toItems, items, listed, readValue, valueRead, valueOf, readArray, readObject}
 use Rattle.trusted_list.specs.TrustedList.{asArray, asString, strings, readIds}
-use Rattle.trusted_list.specs.Slots.{idsAt, isString}
-use Rattle.trusted_list.specs.Entries.{toFirst, toNext, firstEntry, nextEntry, Coming, over, comes}
+use Rattle.trusted_list.specs.code.Slots.{idsAt, isString}
+use Rattle.trusted_list.specs.code.Entries.{toFirst, toNext, firstEntry, nextEntry, Coming, over, comes}
 use Rattle.trusted_list.proofs.MemberLaws.{bound}
 use Rattle.trusted_list.proofs.FirstByte.{given, array-at, string-first, not-array}
 

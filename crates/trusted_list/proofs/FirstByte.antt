@@ -11,11 +11,11 @@ use borrow.Author.Tests.{eqb-true, eqb-false, eq-eqb, ne-eqb, lt-leb}
 use Rattle.ascii.specs.Ascii.{Bytes, if_then_else_, _when_, all, among, isDigit, number16}
 use Rattle.json_text.specs.Reader.{Read, got, bad, Reader, more, peek, fail, ifNext_then_else_, _giving_, verbatim, asWritten, mapped}
 use Rattle.json_text.specs.Lexical.{readNumber, readString}
-use Rattle.json_text.specs.Places.{Peeked, readAt}
+use Rattle.json_text.specs.code.Places.{Peeked, readAt}
 use Rattle.json_text.proofs.Steps.{on, one-yes, next-yes, next-no, fail-at, giving-at, is-one}
 use Rattle.json.specs.Json.{Json, literal, number, string, array, object, Jsons, Members, toItems, toMembers, listed, readMember, readArray, readObject, valueOf, readValue}
 use Rattle.trusted_list.specs.TrustedList.{asObject, asArray, readNumber16}
-use Rattle.trusted_list.specs.Slots.{isString}
+use Rattle.trusted_list.specs.code.Slots.{isString}
 
 -- ---- objects and arrays
 

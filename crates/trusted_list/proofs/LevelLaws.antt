@@ -9,15 +9,15 @@ use lib.Dec.{eqb}
 use borrow.Author.Tests.{eq-eqb, ne-eqb}
 use Rattle.ascii.specs.Ascii.{Bytes, if_then_else_, _>>=_, _orElse_, isNone, all, same, text}
 use Rattle.json_text.specs.Reader.{got, mapped}
-use Rattle.json_text.specs.Places.{Peeked, readAt, placeOf}
-use Rattle.json_text.specs.PlainString.{AsciiString, is-short, is-unknown}
+use Rattle.json_text.specs.code.Places.{Peeked, readAt, placeOf}
+use Rattle.json_text.specs.code.PlainString.{AsciiString, is-short, is-unknown}
 use Rattle.json_text.specs.declared.Next.{Next}
 use Rattle.json_text.specs.declared.Next.the-variants.{At, Bad}
 use Rattle.json_text.proofs.Steps.{found, missed}
 use Rattle.json.proofs.Values.{value-string}
 use Rattle.json.specs.Json.{Json, array, object, toItems, toMembers, readMember, readValue, valueRead, listed}
 use Rattle.trusted_list.specs.TrustedList.{asObject, asArray, asString, valuesOf, only, once, readNumber16, Version, readVersion, strings, readIds, Listing, readListing, listings, readListings, readList, isWanted, select}
-use Rattle.trusted_list.specs.Slots.{Relates, Extends, Came, Once, never, one, again, Name, Names, slotRead, twoRead, numberSlot, NumberIs, versionSlot, VersionIs, versionOf, idsAt, IdsIs, no-ids, ids-held, isString, stringsSlot, Strings, ListingIs, no-listing, not-wanted, is-wanted, listingOf, Selects, misshapen, nothing, selects, Listings, ListIs, earlier, BodyIs, no-list, list-is}
+use Rattle.trusted_list.specs.code.Slots.{Relates, Extends, Came, Once, never, one, again, Name, Names, slotRead, twoRead, numberSlot, NumberIs, versionSlot, VersionIs, versionOf, idsAt, IdsIs, no-ids, ids-held, isString, stringsSlot, Strings, ListingIs, no-listing, not-wanted, is-wanted, listingOf, Selects, misshapen, nothing, selects, Listings, ListIs, earlier, BodyIs, no-list, list-is}
 use Rattle.trusted_list.specs.declared.Slot.{Slot}
 use Rattle.trusted_list.specs.declared.Slot.the-variants.{Absent, Held, Other, Spoiled}
 use Rattle.trusted_list.specs.declared.Two.{Two}

@@ -12,13 +12,13 @@ use Rattle.ascii.specs.Ascii.{Bytes, if_then_else_, same, text}
 use Rattle.ascii.proofs.Compare.{same-eq}
 use Rattle.json_text.specs.Reader.{Read, got, bad, Reader, _>>=_, _>>_, oneOf, mapped}
 use Rattle.json_text.specs.Lexical.{ws, readString}
-use Rattle.json_text.specs.Places.{Peeked, readAt, placeOf, fit, contentOf, isText}
+use Rattle.json_text.specs.code.Places.{Peeked, readAt, placeOf, fit, contentOf, isText}
 use Rattle.json_text.specs.declared.Next.{Next}
 use Rattle.json_text.specs.declared.Next.the-variants.{At, Bad}
 use Rattle.json_text.proofs.Steps.{on, then-bad, one-yes, one-no, give-at, giving-at, found, missed, is-one, not-one}
 use Rattle.json.specs.Json.{Json, toMembers, readMember, readValue}
 use Rattle.trusted_list.specs.TrustedList.{valuesOf}
-use Rattle.trusted_list.specs.Slots.{Relates, Extends, Came, Once, never, one, again, Name, Names, slotRead, twoRead, memberName, fill}
+use Rattle.trusted_list.specs.code.Slots.{Relates, Extends, Came, Once, never, one, again, Name, Names, slotRead, twoRead, memberName, fill}
 use Rattle.trusted_list.specs.declared.Slot.{Slot}
 use Rattle.trusted_list.specs.declared.Slot.the-variants.{Absent, Held, Other, Spoiled}
 use Rattle.trusted_list.specs.declared.Two.{Two}

@@ -11,12 +11,12 @@ use borrow.Author.Tests.{lt-ltb, le-ltb}
 use Rattle.ascii.specs.Ascii.{Bytes, if_then_else_, _>>=_, isNone}
 use Rattle.json_text.specs.Reader.{Read, got, bad, more, endOfText}
 use Rattle.json_text.specs.Lexical.{ws}
-use Rattle.json_text.specs.Places.{readAt}
+use Rattle.json_text.specs.code.Places.{readAt}
 use Rattle.json_text.proofs.Steps.{on, then-bad, give-at}
 use Rattle.json.specs.Json.{Json, readValue, readText, valueRead, readJson}
 use Rattle.refusals.specs.declared.Refusal.the-variants.{LongList, Unreadable, Misshapen, NoVersion}
 use Rattle.trusted_list.specs.TrustedList.{Listing, readList, select, readBody, selected, listRefusal, entries}
-use Rattle.trusted_list.specs.Slots.{Relates, slotRead, idsAt, Selects, misshapen, nothing, selects, BodyIs, no-list, list-is, Answers, is-refused, is-selected}
+use Rattle.trusted_list.specs.code.Slots.{Relates, slotRead, idsAt, Selects, misshapen, nothing, selects, BodyIs, no-list, list-is, Answers, is-refused, is-selected}
 use Rattle.trusted_list.specs.declared.Slot.{Slot}
 use Rattle.trusted_list.specs.declared.Slot.the-variants.{Absent, Held, Other, Spoiled}
 use Rattle.trusted_list.specs.declared.Found.{Found}

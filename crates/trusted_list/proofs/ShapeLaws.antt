@@ -7,17 +7,17 @@ use Prim.Native.Nat.{ℕ, _+_, _-_, _≤_, _<_}
 use native.Mathlib.Omega.{arith}
 use lib.ListN.{length, take, drop}
 use Rattle.ascii.specs.Ascii.{Bytes, if_then_else_, same, text, number16}
-use Rattle.ascii.specs.Numbers.{numberOf}
+use Rattle.ascii.specs.code.Numbers.{numberOf}
 use Rattle.ascii.specs.declared.decimals.Number.{Number}
 use Rattle.ascii.specs.declared.decimals.Number.the-variants.{Value as Is, Malformed}
-use Rattle.json_text.specs.Places.{readAt, placeOf}
+use Rattle.json_text.specs.code.Places.{readAt, placeOf}
 use Rattle.json_text.specs.declared.Next.{Next}
 use Rattle.json_text.specs.declared.Next.the-variants.{At, Bad}
 use Rattle.json_text.proofs.Steps.{found, missed}
 use Rattle.json.specs.Json.{Json, toMembers, readValue}
 use Rattle.json.proofs.Sizes.{value-spans}
 use Rattle.trusted_list.specs.TrustedList.{valuesOf, readNumber16}
-use Rattle.trusted_list.specs.Slots.{Relates, Came, never, Names, slotRead, numberSlot, NumberIs}
+use Rattle.trusted_list.specs.code.Slots.{Relates, Came, never, Names, slotRead, numberSlot, NumberIs}
 use Rattle.trusted_list.specs.declared.Slot.{Slot}
 use Rattle.trusted_list.specs.declared.Slot.the-variants.{Absent, Held, Spoiled}
 use Rattle.trusted_list.specs.declared.Found.the-variants.{Wrong, Value}

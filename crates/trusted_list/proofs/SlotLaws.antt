@@ -4,7 +4,7 @@ use mathlib.Core.Bool.{_&&_}
 use Prim.Native.Nat.{ℕ}
 use borrow.Author.Tests.{eq-eqb, ne-eqb}
 use Rattle.ascii.specs.Ascii.{if_then_else_}
-use Rattle.trusted_list.specs.Slots.{fill, versionOf, listingOf, earlier}
+use Rattle.trusted_list.specs.code.Slots.{fill, versionOf, listingOf, earlier}
 use Rattle.trusted_list.specs.declared.Slot.{Slot}
 use Rattle.trusted_list.specs.declared.Slot.the-variants.{Absent, Held, Other, Spoiled}
 

@@ -8,10 +8,10 @@ use lib.Seq.{append-snoc}
 use Rattle.ascii.specs.Ascii.{Bytes}
 use Rattle.json_text.specs.Reader.{Read, got, bad, Reader, give, oneOf, _>>=_, _>>_, ifNext_then_else_, mapped}
 use Rattle.json_text.specs.Lexical.{ws}
-use Rattle.json_text.specs.Places.{Peeked, readAt}
+use Rattle.json_text.specs.code.Places.{Peeked, readAt}
 use Rattle.json_text.proofs.Steps.{on, then-bad, one-yes, one-no, next-yes, next-no, give-at, counted-at, map-give, no-fall, peek-in, is-one, not-one}
 use Rattle.json.specs.Json.{items, listed}
-use Rattle.trusted_list.specs.Slots.{Relates, unread, related, Extends, slotRead, twoRead}
+use Rattle.trusted_list.specs.code.Slots.{Relates, unread, related, Extends, slotRead, twoRead}
 use Rattle.trusted_list.specs.declared.Slot.{Slot}
 use Rattle.trusted_list.specs.declared.Two.{Two}
 use Rattle.trusted_list.specs.declared.Found.{Found}

@@ -1,3 +1,2 @@
 pub mod TrustedList
-pub mod Slots
-pub mod Entries
+pub mod code

@@ -3,10 +3,10 @@ use json_text::Next;
 use refusals::Refusal;
 ghost use mathlib.Core.Path.{_≡_};
 ghost use Rattle.ascii.specs.Ascii.{text};
-ghost use Rattle.json_text.specs.Places.{readAt, placeOf};
+ghost use Rattle.json_text.specs.code.Places.{readAt, placeOf};
 ghost use Rattle.json.specs.Json.{listed, readMember, readValue};
-ghost use Rattle.trusted_list.specs.Entries.{firstEntry, nextEntry};
-ghost use Rattle.trusted_list.specs.Slots.{Relates, Extends, Came, Name, Names, slotRead, twoRead, memberName, fill, versionOf, listingOf, earlier, NumberIs, VersionIs, IdsIs, ListingIs, ListIs, BodyIs, Strings, Listings, Answers};
+ghost use Rattle.trusted_list.specs.code.Entries.{firstEntry, nextEntry};
+ghost use Rattle.trusted_list.specs.code.Slots.{Relates, Extends, Came, Name, Names, slotRead, twoRead, memberName, fill, versionOf, listingOf, earlier, NumberIs, VersionIs, IdsIs, ListingIs, ListIs, BodyIs, Strings, Listings, Answers};
 
 // What the pass holds of a value that must have a shape: it did not come; it came and is good, with a number or a
 // place; it came and is good, but not what is wanted; it came misshapen, or more than once.

@@ -2,8 +2,8 @@
 use Prim.Native.Nat.{_-_}
 use mathlib.Core.Bool.{true}
 use lib.ListN.{length}
-use Rattle.decision.specs.Meaning.{entriesAt}
-use Rattle.cleaning.specs.Meaning.{names, idsText}
+use Rattle.decision.specs.code.Meaning.{entriesAt}
+use Rattle.cleaning.specs.code.Meaning.{names, idsText}
 use Rattle.cleaning.proofs.WriteLaws.{Written}
 use Rattle.cleaning.proofs.Laws.{write-last, write-loop, write-stuck}
 use borrow.Author.Needs.{needs}

@@ -3,7 +3,7 @@ use Prim.Native.Nat.{_-_}
 use lib.ListN.{length}
 use Rattle.causes.specs.Causes.{kept}
 use Rattle.decision.specs.Decide.{firstMatch}
-use Rattle.decision.specs.Meaning.{entriesAt}
+use Rattle.decision.specs.code.Meaning.{entriesAt}
 use Rattle.decision.proofs.EntrySteps.{Seeks}
 use Rattle.decision.proofs.Laws.{seeking}
 use Rattle.decision.proofs.first_match.Statement.{statement}

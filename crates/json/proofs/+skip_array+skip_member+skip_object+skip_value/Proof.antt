@@ -4,7 +4,7 @@ use Prim.Native.Nat.{_+_, _*_, _-_}
 use lib.ListN.{length}
 use Rattle.ascii.specs.Ascii.{text}
 use Rattle.json.specs.Json.{listed, readMember, readValue}
-use Rattle.json_text.specs.Places.{readAt, placeOf}
+use Rattle.json_text.specs.code.Places.{readAt, placeOf}
 use Rattle.json.proofs.Items.{Loop}
 use Rattle.json.proofs.Laws.{fits, laws}
 use Prim.Native.Nat.{ℕ, _<_}

@@ -3,7 +3,7 @@ use mathlib.Core.Path.{_≡_}
 use Prim.Native.Nat.{_-_}
 use lib.ListN.{length}
 use Rattle.json_text.specs.Lexical.{ws}
-use Rattle.json_text.specs.Places.{readAt}
+use Rattle.json_text.specs.code.Places.{readAt}
 use Rattle.json_text.proofs.Laws.{blank-laws, fits}
 use Rattle.json_text.proofs.skip_blanks.Statement.{statement}
 use Rattle.json_text.proofs.skip_blanks.Tie as tie

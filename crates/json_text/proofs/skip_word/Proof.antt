@@ -2,7 +2,7 @@
 use Prim.Native.Nat.{_-_}
 use lib.ListN.{length}
 use Rattle.json_text.specs.Reader.{word}
-use Rattle.json_text.specs.Places.{readAt, placeOf}
+use Rattle.json_text.specs.code.Places.{readAt, placeOf}
 use Rattle.json_text.proofs.Words.{Spelled}
 use Rattle.json_text.proofs.Laws.{blank-laws, fits, next-fits}
 use Rattle.json_text.proofs.skip_word.Statement.{statement}

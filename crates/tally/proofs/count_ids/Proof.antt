@@ -1,7 +1,7 @@
 -- `tally::count_ids` meets its contract.
 use Prim.Native.Nat.{_-_}
 use lib.ListN.{length}
-use Rattle.decision.specs.Meaning.{entriesAt}
+use Rattle.decision.specs.code.Meaning.{entriesAt}
 use Rattle.tally.specs.Tally.{counts}
 use Rattle.tally.proofs.CountLaws.{Counting}
 use Rattle.tally.proofs.Laws.{counting}

@@ -3,9 +3,9 @@ use Prim.Native.Nat.{_-_}
 use mathlib.Core.List.{[], _∷_}
 use lib.ListN.{length}
 use Rattle.ascii.specs.Ascii.{text}
-use Rattle.json_text.specs.Places.{readAt}
+use Rattle.json_text.specs.code.Places.{readAt}
 use Rattle.json.specs.Json.{listed, readValue}
-use Rattle.trusted_list.specs.Slots.{Listings}
+use Rattle.trusted_list.specs.code.Slots.{Listings}
 use Rattle.trusted_list.proofs.Walks.{Walk}
 use Rattle.trusted_list.proofs.Laws.{fits, walks}
 use Rattle.trusted_list.proofs.list_items.Statement.{statement}

@@ -2,7 +2,7 @@
 use Prim.Native.Nat.{_-_}
 use lib.ListN.{length}
 use Rattle.ascii.specs.Ascii.{number16}
-use Rattle.ascii.specs.Numbers.{numberOf}
+use Rattle.ascii.specs.code.Numbers.{numberOf}
 use Rattle.ascii.proofs.NumberLaws.{Digits}
 use Rattle.ascii.proofs.NumberLaws.{number-laws}
 use Rattle.ascii.proofs.decimals.read_number.Statement.{statement}

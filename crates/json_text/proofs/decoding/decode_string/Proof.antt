@@ -2,7 +2,7 @@
 use Prim.Native.Nat.{_-_}
 use lib.ListN.{length}
 use Rattle.json_text.specs.Lexical.{readString}
-use Rattle.json_text.specs.Places.{readAt, placeOf, contentOf}
+use Rattle.json_text.specs.code.Places.{readAt, placeOf, contentOf}
 use Rattle.json_text.proofs.Holding.{Decodes}
 use Rattle.json_text.proofs.Laws.{decoding-laws, fits}
 use Rattle.json_text.proofs.decoding.decode_string.Statement.{statement}

@@ -4,7 +4,7 @@ use Prim.Native.Nat.{_-_}
 use lib.ListN.{length}
 use Rattle.ascii.specs.Ascii.{isDigit}
 use Rattle.json_text.specs.Reader.{many}
-use Rattle.json_text.specs.Places.{readAt}
+use Rattle.json_text.specs.code.Places.{readAt}
 use Rattle.json_text.proofs.Laws.{fits, number-laws}
 use Rattle.json_text.proofs.numbers.skip_digits.Statement.{statement}
 use Rattle.json_text.proofs.numbers.skip_digits.Tie as tie

@@ -3,8 +3,8 @@ use mathlib.Core.Path.{_≡_}
 use Prim.Native.Nat.{_-_}
 use lib.ListN.{length}
 use Rattle.json_text.specs.Reader.{many}
-use Rattle.json_text.specs.Places.{readAt}
-use Rattle.json_text.specs.PlainString.{isAsciiChar}
+use Rattle.json_text.specs.code.Places.{readAt}
+use Rattle.json_text.specs.code.PlainString.{isAsciiChar}
 use Rattle.json_text.proofs.Laws.{ascii-laws}
 use Rattle.json_text.proofs.strings.skip_ascii.Statement.{statement}
 use Rattle.json_text.proofs.strings.skip_ascii.Tie as tie

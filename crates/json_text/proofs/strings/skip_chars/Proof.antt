@@ -3,7 +3,7 @@ use Prim.Native.Nat.{_-_}
 use lib.ListN.{length}
 use Rattle.json_text.specs.Reader.{counted}
 use Rattle.json_text.specs.Lexical.{readChars}
-use Rattle.json_text.specs.Places.{readAt, placeOf}
+use Rattle.json_text.specs.code.Places.{readAt, placeOf}
 use Rattle.json_text.proofs.Chars.{Spells}
 use Rattle.json_text.proofs.Laws.{fits, string-laws}
 use Rattle.json_text.proofs.strings.skip_chars.Statement.{statement}

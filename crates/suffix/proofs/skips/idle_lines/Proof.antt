@@ -1,7 +1,7 @@
 -- `suffix::idle_lines` meets its contract.
 use Prim.Native.Nat.{_-_}
 use lib.ListN.{length}
-use Rattle.suffix.specs.Idle.{Shallow}
+use Rattle.suffix.specs.code.Idle.{Shallow}
 use Rattle.suffix.proofs.SkipLaws.{skip-laws}
 use Rattle.suffix.proofs.skips.idle_lines.Statement.{statement}
 use Rattle.suffix.proofs.skips.idle_lines.Tie as tie

@@ -1,7 +1,7 @@
 -- `suffix::skip_comments` meets its contract.
 use Prim.Native.Nat.{_-_}
 use lib.ListN.{length}
-use Rattle.suffix.specs.Idle.{Skipped}
+use Rattle.suffix.specs.code.Idle.{Skipped}
 use Rattle.suffix.proofs.SkipLaws.{skip-laws}
 use Rattle.suffix.proofs.skips.skip_comments.Statement.{statement}
 use Rattle.suffix.proofs.skips.skip_comments.Tie as tie

@@ -8,7 +8,7 @@ use Prim.Native.Char.{code}
 use lib.ListN.{length, take, drop, getD}
 use lib.Dec.{leb}
 use Rattle.ascii.specs.Ascii.{Bytes, if_then_else_, isEmpty, lower, same, beginsWith, text, value, number16}
-use Rattle.ascii.specs.Numbers.{numberOf}
+use Rattle.ascii.specs.code.Numbers.{numberOf}
 use Rattle.ascii.specs.declared.decimals.Number.{Number}
 use Rattle.ascii.specs.declared.decimals.Number.the-variants.{Malformed as NoNumber}
 use Rattle.origin.specs.Origin.{Authority, shownPort}

@@ -8,16 +8,16 @@ use lib.ListN.{length, take, drop}
 use Rattle.ascii.specs.Ascii.{Bytes, isNone}
 use Rattle.suffix.specs.Suffix.{readTable}
 use Rattle.origin.specs.Matching.{facetMatches}
-use Rattle.origin.specs.Parts.{part}
+use Rattle.origin.specs.code.Parts.{part}
 use Rattle.json_text.specs.Reader.{got}
 use Rattle.json_text.specs.Lexical.{readString}
-use Rattle.json_text.specs.Places.{readAt}
+use Rattle.json_text.specs.code.Places.{readAt}
 use Rattle.refusals.specs.declared.Refusal.the-variants.{BadTable}
-use Rattle.trusted_list.specs.Slots.{idsAt}
+use Rattle.trusted_list.specs.code.Slots.{idsAt}
 use Rattle.fetch_record.specs.Record.{Redirect}
-use Rattle.fetch_record.specs.Meaning.{answerOf as responseOf}
+use Rattle.fetch_record.specs.code.Meaning.{answerOf as responseOf}
 use Rattle.causes.specs.Causes.{cause, kept}
-use Rattle.causes.specs.Owner.{Owns}
+use Rattle.causes.specs.code.Owner.{Owns}
 use Rattle.decision.specs.Answer.{Answer, rule1, rule2, rule3, rule4, fetch, refused}
 use Rattle.decision.specs.Decide.{Stage, settled, listDue, firstMatch, byPlace}
 use Rattle.decision.specs.Location.{Source, nowhere, theAppId, redirect}

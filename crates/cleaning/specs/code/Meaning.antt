@@ -8,13 +8,13 @@ use Prim.Native.Char.{code}
 use lib.ListN.{length, drop}
 use Rattle.ascii.specs.Ascii.{Bytes, if_then_else_, isNone, text, prefixed, joinWith, decimal}
 use Rattle.origin.specs.Origin.{normalForm}
-use Rattle.origin.specs.Parts.{Wrote}
+use Rattle.origin.specs.code.Parts.{Wrote}
 use Rattle.json_text.specs.Reader.{got}
 use Rattle.json_text.specs.Lexical.{readString}
-use Rattle.json_text.specs.Places.{readAt}
+use Rattle.json_text.specs.code.Places.{readAt}
 use Rattle.causes.specs.Causes.{cause, kept}
-use Rattle.causes.specs.Owner.{Owns}
-use Rattle.decision.specs.Meaning.{Owned, IdsThere, entriesAt}
+use Rattle.causes.specs.code.Owner.{Owns}
+use Rattle.decision.specs.code.Meaning.{Owned, IdsThere, entriesAt}
 use Rattle.refusals.specs.declared.Refusal.{Refusal}
 use Rattle.trusted_list.specs.TrustedList.{entries}
 use Rattle.cleaning.specs.Clean.{quoted, cleanRefusal, Cleaned, notCleaned, cleaned}

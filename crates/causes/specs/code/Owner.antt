@@ -5,12 +5,11 @@ use mathlib.Core.Option.{Option, none, some}
 use Prim.Native.Nat.{ℕ, _≤_}
 use lib.ListN.{length}
 use Rattle.ascii.specs.Ascii.{Bytes, isNone}
-use Rattle.json_text.specs.Places.{fit}
+use Rattle.json_text.specs.code.Places.{fit}
 use Rattle.suffix.specs.Host.{isHost}
-use Rattle.suffix.specs.Suffix.{readTable, privateLabel}
-use Rattle.suffix.specs.Pass.{orEmpty}
-use Rattle.suffix.specs.Depth.{deeperThan}
-use Rattle.origin.specs.Parts.{part}
+use Rattle.suffix.specs.Suffix.{readTable, privateLabel, orEmpty}
+use Rattle.suffix.specs.code.Depth.{deeperThan}
+use Rattle.origin.specs.code.Parts.{part}
 use Rattle.causes.specs.Causes.{Cause, tooLong, otherScheme, notFacet, otherLabel, appLabel, labelsAgree, cause}
 use Rattle.causes.specs.declared.Verdict.{Verdict}
 use Rattle.causes.specs.declared.Verdict.the-variants.{Kept, TooLong, OtherScheme, NotFacet, OtherLabel}

@@ -8,7 +8,7 @@ use lib.ListN.{length, take, drop, getD}
 use lib.Dec.{eqb}
 use Rattle.ascii.specs.Ascii.{Bytes, _>>=_, all}
 use Rattle.refusals.specs.declared.Refusal.{Refusal}
-use Rattle.fetch_record.specs.Record.{Redirect, Answer, Fetched, number, readEnd, inText, lastLocation, lastRedirect, readRecord}
+use Rattle.fetch_record.specs.Record.{Redirect, Answer, Fetched, number, readEnd, inText, lastLocation, readRecord}
 use Rattle.fetch_record.specs.Fetching.{Fetching, refused, fetch, answered}
 use Rattle.fetch_record.specs.declared.item.Redirect.{Redirect as RedirectItem}
 use Rattle.fetch_record.specs.declared.item.Answer.{Answer as AnswerItem}
@@ -124,10 +124,6 @@ outcomeOf (Settled a) = answered (answerOf a)
 -- none for a bad record too
 unfoldable pub target : Bytes → Bytes → Option Bytes
 target items lent = readRecord items lent >>= λ f. lastLocation lent (f .redirects)
-
--- the last redirect itself
-unfoldable pub lastHop : Bytes → Bytes → Option Redirect
-lastHop items lent = readRecord items lent >>= λ f. lastRedirect (f .redirects)
 
 unfoldable pub partIn : Bytes → Target → Option Bytes
 partIn lent NoRedirect = none

@@ -6,10 +6,10 @@ use lib.ListN.{length, take, drop, getD}
 use lib.Dec.{eqb, leb}
 use Rattle.ascii.specs.Ascii.{Bytes, if_then_else_, takeWhile, lastOf, splitAt, isDigit, isLetter, lowerByte}
 use Rattle.suffix.specs.Host.{labels, isHost}
-use Rattle.suffix.specs.Place.{Stands}
+use Rattle.suffix.specs.code.Place.{Stands}
 use Rattle.suffix.specs.Suffix.{readLines}
-use Rattle.suffix.specs.Pass.{bestOf, joinBest, inLine, inContent}
-use Rattle.suffix.specs.Depth.{linesDepth}
+use Rattle.suffix.specs.code.Pass.{bestOf, joinBest, inLine, inContent}
+use Rattle.suffix.specs.code.Depth.{linesDepth}
 use Rattle.suffix.specs.declared.Best.the-variants.{Sizes}
 use Rattle.suffix.specs.declared.skips.Step.{Step}
 use Rattle.suffix.specs.declared.skips.Step.the-variants.{On, Off}

@@ -6,7 +6,7 @@ use Prim.Native.Char.{code}
 use lib.Dec.{eqb}
 use Rattle.ascii.specs.Ascii.{if_then_else_, isEmpty, between, lower, value}
 use Rattle.origin.specs.Origin.{Authority}
-use Rattle.origin.specs.Parts.{isHidden}
+use Rattle.origin.specs.code.Parts.{isHidden}
 
 -- the port by its value, 443 where it is absent
 unfoldable pub effectivePort : Authority → ℕ

@@ -8,7 +8,7 @@ use Prim.Native.Char.{code}
 use lib.ListN.{length, drop}
 use lib.Dec.{eqb, ltb}
 use Rattle.ascii.specs.Ascii.{Bytes, if_then_else_, _>>=_, filterBy}
-use Rattle.suffix.specs.Suffix.{Rule, isBlank, isSkipped, readRule, matches, privateLabel}
+use Rattle.suffix.specs.Suffix.{Rule, isBlank, isSkipped, readRule, matches, privateLabel, orEmpty}
 use Rattle.suffix.specs.declared.Best.{Best}
 use Rattle.suffix.specs.declared.Best.the-variants.{Bad, Sizes}
 
@@ -48,11 +48,6 @@ inContent b = inLine b && not (isBlank b)
 -- the labels of the public suffix, by the two numbers
 unfoldable pub sizeOf : ℕ → ℕ → ℕ
 sizeOf exception most = if ltb 0 exception then exception - 1 else if eqb most 0 then 1 else most
-
--- none as nothing
-abbrev pub orEmpty : Option Bytes → Bytes
-orEmpty none = []
-orEmpty (some l) = l
 
 -- the private label is what stands in the host from the place r on
 pub record LabelAt (table host : Bytes) (r : ℕ) : Type 0 where

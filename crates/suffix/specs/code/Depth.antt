@@ -8,8 +8,8 @@ use lib.ListN.{length}
 use Rattle.ascii.specs.Ascii.{Bytes, if_then_else_, isNone, filterBy, lastOf}
 use Rattle.suffix.specs.Host.{labels}
 use Rattle.suffix.specs.Suffix.{Rule, content, readTable, matches, privateLabel}
-use Rattle.suffix.specs.Pass.{maxLabels, readLine, LabelAt}
-use Rattle.suffix.specs.Deeper.{goesDeeper, isDeeper}
+use Rattle.suffix.specs.code.Pass.{maxLabels, readLine, LabelAt}
+use Rattle.suffix.specs.code.Deeper.{goesDeeper, isDeeper}
 use Rattle.suffix.specs.declared.Depths.{Depths}
 use Rattle.suffix.specs.declared.Depths.the-variants.{Wrong, Found}
 use Rattle.suffix.specs.declared.Owner.{Owner}

@@ -8,7 +8,7 @@ use lib.ListN.{length, take, drop}
 use Rattle.ascii.specs.Ascii.{Bytes, between}
 use Rattle.json_text.specs.Reader.{got}
 use Rattle.json_text.specs.Lexical.{readString}
-use Rattle.json_text.specs.Places.{Peeked, readAt, placeOf}
+use Rattle.json_text.specs.code.Places.{Peeked, readAt, placeOf}
 use Rattle.json_text.specs.declared.Next.{Next}
 use Rattle.json_text.specs.declared.Next.the-variants.{At, Bad}
 

@@ -6,9 +6,9 @@ use Prim.Native.Nat.{ℕ, _+_, _≤_}
 use Rattle.ascii.specs.Ascii.{Bytes}
 use Rattle.json_text.specs.Reader.{got}
 use Rattle.json_text.specs.Lexical.{readString}
-use Rattle.json_text.specs.Places.{readAt}
+use Rattle.json_text.specs.code.Places.{readAt}
 use Rattle.causes.specs.Causes.{Cause, tooLong, otherScheme, notFacet, otherLabel, cause}
-use Rattle.causes.specs.Owner.{Owns, causeOf}
+use Rattle.causes.specs.code.Owner.{Owns, causeOf}
 use Rattle.causes.specs.declared.Verdict.{Verdict}
 use Rattle.tally.specs.Tally.{Counts, Tally, notTallied, tallied}
 use Rattle.tally.specs.declared.Counts.{Counts as Held}

@@ -5,7 +5,7 @@ use Prim.Native.Nat.{ℕ}
 use Rattle.ascii.specs.Ascii.{Bytes, text}
 use Rattle.json_text.specs.Reader.{got, Reader, _>>=_, _>>_, give, fail, oneOf, ifNext_then_else_}
 use Rattle.json_text.specs.Lexical.{ws, readString}
-use Rattle.json_text.specs.Places.{readAt, placeOf}
+use Rattle.json_text.specs.code.Places.{readAt, placeOf}
 use Rattle.json_text.specs.declared.Next.{Next}
 use Rattle.json_text.specs.declared.Next.the-variants.{At, Bad}
 

@@ -8,7 +8,7 @@ use lib.Dec.{eqb}
 use Rattle.ascii.specs.Ascii.{Bytes, if_then_else_, isNone, all, text}
 use Rattle.json_text.specs.Reader.{Read, got, bad, Reader, _>>=_, _>>_, give, oneOf, ifNext_then_else_}
 use Rattle.json_text.specs.Lexical.{ws, readString}
-use Rattle.json_text.specs.Places.{readAt}
+use Rattle.json_text.specs.code.Places.{readAt}
 use Rattle.json.specs.Json.{Json, toItems, toMembers, readValue, valueRead}
 use Rattle.refusals.specs.declared.Refusal.{Refusal}
 use Rattle.trusted_list.specs.TrustedList.{Version, Listing, valuesOf, asString, readNumber16, readVersion, readIds, readListing, listings, readListings, readList, isWanted, select, listRefusal, entries}

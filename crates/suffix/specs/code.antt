@@ -1,0 +1,5 @@
+pub mod Pass
+pub mod Depth
+pub mod Idle
+pub mod Place
+pub mod Deeper
