@@ -1,4 +1,5 @@
-"""Runs the program `clean` on refusals and on both sides of its bounds. What it must print is worked out from document 01's words below.
+"""Runs the program `clean` on refusals and on both sides of its bounds, and bin/clean over it. What they must print is worked out from
+document 01's words below.
 
     python3 tools/run_clean.py      (after `rt check clean` or `rt ci`)
 """
@@ -88,21 +89,46 @@ RUNS = [
 ]
 
 
-def run(files):
+# bin/clean: arguments, files, exit status, standard output, what standard error names
+WRAPPED = [
+    ('the example where no folder is named', [], None, 0, LIST + b'\n', b''),
+    ('a folder', ['.'], (APPID, TABLE, BODY), 0, LIST + b'\n', b''),
+    ('a refusal', ['.'], (b'', TABLE, BODY), 1, b'refused 3\n', b'foreign AppID'),
+    ('another refusal', ['.'], (APPID, b'-', BODY), 1, b'refused 13\n', b'bad table'),
+    ('no such folder', ['none'], (APPID, TABLE, BODY), 2, b'', b'is no folder'),
+    ('two folders', ['.', '.'], (APPID, TABLE, BODY), 2, b'', b'Usage: bin/clean'),
+]
+
+
+def in_folder(files, command):
     with tempfile.TemporaryDirectory() as folder:
-        for name, content in zip(('appid', 'table', 'body'), files):
+        for name, content in zip(('appid', 'table', 'body'), files or ()):
             if content is not None:
                 with open(os.path.join(folder, name), 'wb') as file:
                     file.write(content)
-        return subprocess.run([os.path.join(TOP, 'target', 'bin', 'clean')], cwd=folder, stdout=subprocess.PIPE, check=True).stdout
+        return subprocess.run(command, cwd=folder, stdout=subprocess.PIPE, stderr=subprocess.PIPE)
 
 
-failed = 0
+passed, failed = 0, 0
+
+
+def compare(name, got, wanted):
+    global passed, failed
+    if got == wanted:
+        passed += 1
+    else:
+        failed += 1
+        print(f'{name}: {str(got)[:300]}, and not {str(wanted)[:300]}')
+
+
 for name, appid, table, text, wanted in RUNS:
     wanted = b'refused %d\n' % wanted[1] if isinstance(wanted, tuple) else wanted + b'\n'
-    printed = run((appid, table, text))
-    if printed != wanted:
-        failed += 1
-        print(f'{name}: printed {printed[:200]!r}, and not {wanted[:200]!r}')
-print(f'{len(RUNS) - failed} passed, {failed} failed')
+    done = in_folder((appid, table, text), [os.path.join(TOP, 'target', 'bin', 'clean')])
+    compare(name, (done.returncode, done.stdout), (0, wanted))
+for name, words, files, status, printed, named in WRAPPED:
+    done = in_folder(files, [os.path.join(TOP, 'bin', 'clean'), *words])
+    compare('bin/clean: ' + name, (done.returncode, done.stdout, named in done.stderr, bool(done.stderr)), (status, printed, True, bool(named)))
+done = in_folder(None, [os.path.join(TOP, 'bin', 'clean'), '--help'])
+compare('bin/clean --help', (done.returncode, done.stdout[:17]), (0, b'Usage: bin/clean '))
+print(f'{passed} passed, {failed} failed')
 sys.exit(failed != 0)

@@ -56,7 +56,7 @@ impl Answer {
             3 => Answer::Rule3,
             4 => Answer::Rule4 { place },
             5 => Answer::Fetch,
-            101..=114 => Answer::Refused(Refusal::from_library(code - 100)),
+            101..=114 => Answer::Refused(Refusal::from_library(u32::from(code) - 100)),
             _ => panic!("the library gave the unknown decision {code}"),
         }
     }
@@ -125,7 +125,7 @@ mod tests {
             assert_eq!(answer.allows(), code <= 4);
         }
         for number in 1..=14 {
-            let refusal = Refusal::from_library(number);
+            let refusal = Refusal::from_library(u32::from(number));
             assert_eq!(Answer::from_library(100 + number, 0), Answer::Refused(refusal));
         }
     }

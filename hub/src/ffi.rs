@@ -1,14 +1,16 @@
 //! The library's C calls, each behind a function on slices.
 //!
 //! A byte slice lent to the library passes as its pointer, then its length. The library reads it for the
-//! time of the call only and keeps no pointer. An empty slice's pointer is non-null and never read.
+//! time of the call only and keeps no pointer. An empty slice's pointer is non-null and never read. The
+//! declarations are held to the library's source by `tests/hub/boundary.rs`; the record passes as `items`.
 
 use crate::Inputs;
+use std::mem::offset_of;
 
 /// A part of the AppID or of the text: `source` is 0 for no part, 1 for the AppID, 2 for the text.
 #[repr(C)]
 pub struct Location {
-    pub source: u8,
+    pub source: u32,
     pub start: u32,
     pub len: u32,
 }
@@ -16,20 +18,48 @@ pub struct Location {
 /// What cleaning reports: `refusal` is 0 where it wrote a list of `len` bytes.
 #[repr(C)]
 pub struct Cleaned {
-    pub refusal: u16,
+    pub refusal: u32,
     pub len: u32,
 }
 
 /// What the tally reports: `refusal` is 0 where it counted.
 #[repr(C)]
 pub struct Tally {
-    pub refusal: u16,
+    pub refusal: u32,
     pub kept: u32,
     pub too_long: u32,
     pub other_scheme: u32,
     pub not_facet: u32,
     pub other_label: u32,
 }
+
+/// Holds that no byte of a struct is free: its fields, all of them, stand one behind another and fill it.
+macro_rules! no_free_byte {
+    ($name:ident { $($field:ident: $width:ty),+ }) => {
+        const _: () = {
+            let mut at = 0;
+            $(
+                assert!(offset_of!($name, $field) == at);
+                at += size_of::<$width>();
+            )+
+            assert!(at == size_of::<$name>());
+        };
+        const _: fn($name) = |$name { $($field),+ }| {
+            $(let _: $width = $field;)+
+        };
+    };
+}
+
+no_free_byte!(Location { source: u32, start: u32, len: u32 });
+no_free_byte!(Cleaned { refusal: u32, len: u32 });
+no_free_byte!(Tally {
+    refusal: u32,
+    kept: u32,
+    too_long: u32,
+    other_scheme: u32,
+    not_facet: u32,
+    other_label: u32
+});
 
 mod c {
     use super::Location;
@@ -50,8 +80,8 @@ mod c {
             appid_len: usize,
             major: u16,
             minor: u16,
-            record: *const u8,
-            record_len: usize,
+            items: *const u8,
+            items_len: usize,
             text: *const u8,
             text_len: usize,
             body: *const u8,
@@ -67,8 +97,8 @@ mod c {
             appid_len: usize,
             major: u16,
             minor: u16,
-            record: *const u8,
-            record_len: usize,
+            items: *const u8,
+            items_len: usize,
             text: *const u8,
             text_len: usize,
             body: *const u8,
@@ -83,8 +113,8 @@ mod c {
             caller_len: usize,
             appid: *const u8,
             appid_len: usize,
-            record: *const u8,
-            record_len: usize,
+            items: *const u8,
+            items_len: usize,
             text: *const u8,
             text_len: usize,
         ) -> Location;

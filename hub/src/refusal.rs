@@ -64,8 +64,8 @@ impl Refusal {
     }
 
     /// The refusal of this number.
-    pub(crate) fn from_library(number: u16) -> Refusal {
-        let refusal = Refusal::ALL.into_iter().find(|refusal| refusal.number() == number);
+    pub(crate) fn from_library(number: u32) -> Refusal {
+        let refusal = Refusal::ALL.into_iter().find(|refusal| u32::from(refusal.number()) == number);
         refusal.unwrap_or_else(|| panic!("the library gave the unknown refusal {number}"))
     }
 

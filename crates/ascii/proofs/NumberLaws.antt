@@ -1,6 +1,6 @@
 -- Decimal numbers read in a loop and written digit by digit. Assumes nothing.
 use mathlib.Core.Path.{_≡_, refl, sym, ap, _∙_}
-use mathlib.Core.List.{[], _∷_, _++_}
+use mathlib.Core.List.{[], _∷_}
 use mathlib.Core.Bool.{Bool, true, false, _&&_, and-false, and-eq-true-iff}
 use mathlib.Core.Option.{Option, none}
 use Prim.Native.Nat.{ℕ, _+_, _-_, _*_, _/_, _%_, _≤_, _<_}
@@ -11,7 +11,7 @@ use lib.Seq.{drop-cons}
 use lib.Dec.{leb}
 use borrow.Author.Tests.{lt-leb, le-leb, leb-true, lt-ltb, le-ltb}
 use borrow.Author.Needs.{needs}
-use Rattle.ascii.specs.Ascii.{Bytes, if_then_else_, _when_, all, isDigit, valueFrom, value, number16, decimalUpTo, decimal}
+use Rattle.ascii.specs.Ascii.{Bytes, _when_, all, isDigit, valueFrom, value, number16, decimalUpTo, decimal}
 use Rattle.ascii.specs.code.Numbers.{numberOf, DigitIs, Writes}
 use Rattle.ascii.specs.declared.decimals.Number.{Number}
 use Rattle.ascii.specs.declared.decimals.Number.the-variants.{Value, Malformed}
@@ -92,9 +92,9 @@ module _ {s : Bytes} {goal : Number} {n i : ℕ} (D : Digits s goal n i) where
       unfolding numberFrom all valueFrom
       number-step = rw (g .is, add-one, drop-cons s i 0 h, sym e ∙ f)
 
-      pub number-over : 65535 < n * 10 + d → Malformed ≡ goal
+      pub number-over : {m : ℕ} → m < n * 10 + d → 65535 ≤ m → Malformed ≡ goal
       unfolding numberOf
-      number-over k = (rw (number-step, from-over (n * 10 + d) (drop (i + 1) s) k)) ∙ D .is
+      number-over k l = (rw (number-step, from-over (n * 10 + d) (drop (i + 1) s) (omega arith))) ∙ D .is
 
       pub number-more : n * 10 + d ≤ 65535 → Digits s goal (n * 10 + d) (i + 1)
       number-more k = record { small = k; is = ap numberOf (sym number-step) ∙ D .is }

@@ -10,7 +10,7 @@ pub enum Number {
     Malformed,
 }
 
-// The number that s writes: one or more digits and nothing else, at most 65535.
+// The number that s writes: one or more digits and nothing else, at most 65535 (document 01, of a port, `major` and `minor`).
 pub fn read_number(s: &[u8]) -> Number
     ensures { λ r. ⌜ r ≡ numberOf (number16 (now (s .entry))) ⌝ }
 {
@@ -39,7 +39,7 @@ fn digit_value(b: u8) -> u32
     requires { ⌜ isDigit b ≡ true ⌝ }
     ensures { λ r. ⌜ DigitIs b r ⌝ }
 {
-    (b - 48) as u32
+    (b - b'0') as u32
 }
 
 // The digits of a number, at the front of the array.
@@ -52,7 +52,7 @@ fn digit(n: u16) -> u8
     requires { ⌜ n < 10 ⌝ }
     ensures { λ r. ⌜ r ≡ 48 + n ⌝ }
 {
-    (48 + n) as u8
+    (b'0' as u16 + n) as u8
 }
 
 // The digits of n, without leading zeros.

@@ -11,7 +11,7 @@ use Rattle.origin.specs.Origin.{normalForm}
 use Rattle.origin.proofs.NormalForms.{normal-short}
 use Rattle.trusted_list.specs.TrustedList.{selected, entries}
 use Rattle.trusted_list.proofs.Bound.{stringsSize, idsSize, versionSize, listingSize, listSize, selected-fits}
-use Rattle.causes.specs.Causes.{cause, kept}
+use Rattle.entries.specs.Causes.{cause, kept}
 use Rattle.cleaning.specs.Clean.{quoted, render, cleanedList}
 
 -- ---- the length of what is written

@@ -13,8 +13,8 @@ use Rattle.json_text.specs.Utf8.{multibyteChar, encodeUtf8}
 use Rattle.json_text.specs.Lexical.{isBlank, digits, int, frac, exp, readNumber, unescaped, hexValue, hexDigit, hex4, lowAfter, codePoint, escaped, readChar, readChars, readString}
 use Rattle.json.specs.Json.{toItems, toMembers, items, listed, readMember, readArray, readObject, valueOf, readValue, readText, valueRead, readJson}
 use Rattle.trusted_list.specs.TrustedList.{valuesOf, once, readNumber16, readVersion, strings, readIds, readListing, listings, readListings, readList, isWanted, select, readBody, selected, listRefusal, entries}
-use Rattle.causes.specs.Causes.{appLabel, labelsAgree, isOtherLabel, cause, kept}
-use Rattle.decision.specs.Decide.{isBadAppId}
+use Rattle.entries.specs.AppId.{isBadAppId, appLabel}
+use Rattle.entries.specs.Causes.{labelsAgree, isOtherLabel, cause, kept}
 use Rattle.cleaning.specs.Clean.{quoted, render, cleanedList, cleanRefusal, cleaned, fitting, orClean, clean}
 
 abbrev appid : Bytes

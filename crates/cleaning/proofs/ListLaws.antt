@@ -20,7 +20,9 @@ use Rattle.refusals.specs.declared.Refusal.{Refusal}
 use Rattle.refusals.specs.declared.Refusal.the-variants.{Full}
 use Rattle.trusted_list.specs.TrustedList.{entries, Accepted}
 use Rattle.trusted_list.proofs.Acceptance.{accepted-selects}
-use Rattle.decision.specs.code.Meaning.{Owned, IdsThere, entriesAt}
+use Rattle.entries.specs.code.Owner.{Owned}
+use Rattle.entries.specs.code.Reading.{IdsThere, entriesAt}
+use Rattle.entries.specs.declared.Owner.{Owner}
 use Rattle.cleaning.specs.Clean.{render, cleanedList, cleanRefusal, notCleaned, cleaned, fitting, orClean, clean}
 use Rattle.cleaning.specs.code.Meaning.{ListedAt, Prepares, names, idsText, listHead, Cleans, refuses, writes}
 use Rattle.cleaning.specs.declared.Output.{Output}
@@ -71,7 +73,7 @@ head-wrote major minor {o} h A B C D E =
     let k : length (p ++ x ++ q ++ y) ≡ 47 + length x + length y = omega (arith, length-append (p ++ x ++ q) y) in
     wrote-then (wrote-then (wrote-then (wrote-then A B (omega arith)) C (omega arith)) D (omega arith)) E (omega arith)
 
-module _ {appid : Bytes} {major minor : ℕ} {body table : Bytes} {start end : ℕ} {deeper : Bool} {ids : ℕ} (L : ListedAt appid major minor body table start end deeper ids) where
+module _ {appid : Bytes} {major minor : ℕ} {body table : Bytes} {o : Owner} {ids : ℕ} (L : ListedAt appid major minor body table o ids) where
   parts : cleanedList appid major minor body table ≡ (listHead major minor ++ idsText true (names appid table (entriesAt body ids))) ++ text "]}]}"
   parts = list-parts appid major minor body table ids (L .is)
 
@@ -90,7 +92,7 @@ module _ {appid : Bytes} {major minor : ℕ} {body table : Bytes} {start end : �
 
   -- ---- room
 
-  pub room-owned : Owned appid table start end deeper
+  pub room-owned : Owned appid table o
   room-owned = L .owned
 
   pub room-there : IdsThere body ids
@@ -167,7 +169,7 @@ module _ (appid : Bytes) (major minor : ℕ) (body table before : Bytes) {w : Re
       go : cleanRefusal appid major minor body table ≡ some x → clean appid major minor body table before ≡ notCleaned x
       go e = unfold clean orClean in (rw e)
 
-  pub clean-listed : {i j : ℕ} {d : Bool} {p : ℕ} {after : Bytes} {r : Output} → w ≡ Listed i j d p
+  pub clean-listed : {o : Owner} {p : ℕ} {after : Bytes} {r : Output} → w ≡ Listed o p
       → Cleans before after (fitting (length before) (cleanedList appid major minor body table)) r → Cleans before after (clean appid major minor body table before) r
   clean-listed {r} h C = rw (go (prepared-listed P h .none-fits)) C
     where

@@ -1,5 +1,5 @@
--- The re-reading theorem: the cleaned list, read again with all other inputs equal, gives every caller the same decision. Assumes nothing
--- of the table or the AppID.
+-- The cleaned list, read again: it is accepted, and its kept entries are the normal forms of the body's. Assumes nothing of the table or
+-- the AppID.
 use mathlib.Core.Path.{_≡_, refl, ap, _∙_}
 use mathlib.Core.List.{List, [], _∷_, map}
 use mathlib.Core.Bool.{true}
@@ -14,10 +14,8 @@ use Rattle.origin.specs.code.Normals.{isPlainByte}
 use Rattle.json.specs.Json.{number, string, toItems, toMembers}
 use Rattle.trusted_list.specs.TrustedList.{valuesOf, once, readNumber16, readVersion, strings, readIds, readListing, listings, readListings, readList, isWanted, select, readBody, selected, entries, Accepted}
 use Rattle.trusted_list.proofs.Acceptance.{Small, selected-small, accepted-selects, selects-accepted}
-use Rattle.causes.specs.Causes.{kept}
-use Rattle.causes.proofs.KeptNormal.{kept-normals, normals-plain}
-use Rattle.decision.specs.Decide.{Stage, settled, listDue, beforeList, lateRefusal, byList, decide}
-use Rattle.decision.proofs.MatchNormal.{first-normal}
+use Rattle.entries.specs.Causes.{kept}
+use Rattle.entries.proofs.KeptNormal.{kept-normals, normals-plain}
 use Rattle.cleaning.specs.Clean.{render, cleanedList}
 use Rattle.cleaning.proofs.CleanLength.{clean-length}
 use Rattle.cleaning.proofs.RenderReads.{versionTree, listingTree, listTree, render-reads}
@@ -79,14 +77,3 @@ module _ (appid table : Bytes) (major minor : ℕ) (body : Bytes) (accepted : Ac
   -- all of which are kept
   pub kept-again : kept appid table (entries major minor (cleanedList appid major minor body table)) ≡ map normalForm (kept appid table (entries major minor body))
   kept-again = ap (kept appid table) entries-again ∙ kept-normals appid table (entries major minor body)
-
-  by-list-again : (caller : Bytes) (stage : Stage) → byList caller appid major minor (cleanedList appid major minor body table) table stage ≡ byList caller appid major minor body table stage
-  unfolding byList lateRefusal
-  by-list-again caller (settled a) = refl
-  by-list-again caller (listDue response) = rw (cleaned-accepted, accepted, kept-again, first-normal caller (kept appid table (entries major minor body)))
-
-  -- for every caller, record and text the answer is the same: rule and place, fetch, or refusal
-  pub re-reading : (caller items lent : Bytes)
-      → decide caller appid major minor items lent (cleanedList appid major minor body table) table ≡ decide caller appid major minor items lent body table
-  unfolding decide
-  re-reading caller items lent = by-list-again caller (beforeList caller appid items lent)

@@ -6,7 +6,7 @@ use Rattle.ascii.specs.Ascii.{Bytes}
 use Rattle.origin.specs.Origin.{normalForm}
 use Rattle.origin.proofs.NormalForms.{normal-twice}
 use Rattle.trusted_list.specs.TrustedList.{entries, Accepted}
-use Rattle.causes.specs.Causes.{kept}
+use Rattle.entries.specs.Causes.{kept}
 use Rattle.cleaning.specs.Clean.{render, cleanedList, cleanRefusal, clean}
 use Rattle.cleaning.proofs.Rereading.{cleaned-accepted, kept-again}
 

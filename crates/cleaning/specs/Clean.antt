@@ -12,8 +12,8 @@ use Rattle.origin.specs.Origin.{beginsHttps, normalForm}
 use Rattle.refusals.specs.declared.Refusal.{Refusal}
 use Rattle.refusals.specs.declared.Refusal.the-variants.{BadAppId, ForeignAppId, BadTable, Full}
 use Rattle.trusted_list.specs.TrustedList.{listRefusal, entries}
-use Rattle.causes.specs.Causes.{kept}
-use Rattle.decision.specs.Decide.{isBadAppId}
+use Rattle.entries.specs.AppId.{isBadAppId}
+use Rattle.entries.specs.Causes.{kept}
 
 -- ---- the list as it is written
 

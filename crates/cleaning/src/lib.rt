@@ -1,171 +1,93 @@
 // Cleaning: what is refused, the length of the list, its bytes.
-use causes::AppOwner;
-use causes::Verdict;
+use entries::AppId;
+use entries::AppOwner;
+use entries::Entry;
+use entries::Owner;
+use json_text::Decoded;
 use json_text::Next;
 use refusals::Refusal;
 use trusted_list::Selection;
 ghost use mathlib.Core.Path.{_≡_};
 ghost use Prim.Native.Nat.{_+_, _≤_};
 ghost use lib.ListN.{length};
-ghost use Rattle.decision.specs.code.Meaning.{Owned, IdsThere, entriesAt};
+ghost use Rattle.entries.specs.code.Owner.{Owned};
+ghost use Rattle.entries.specs.code.Reading.{IdsThere, entriesAt};
+ghost use Rattle.origin.specs.Origin.{normalForm};
 ghost use Rattle.origin.specs.code.Parts.{Wrote};
 ghost use Rattle.ascii.specs.Ascii.{decimal};
 ghost use Rattle.cleaning.specs.Clean.{cleanedList, fitting, clean};
-ghost use Rattle.cleaning.specs.code.Meaning.{ListedAt, Prepares, names, opening, idsText, SizedPart, SizedIs, Small, IdWrote, PutPart, PutIs, listHead, Cleans};
+ghost use Rattle.cleaning.specs.code.Meaning.{ListedAt, Prepares, names, opening, idText, idsText, IdWrote, listHead, Cleans};
 ghost use mathlib.Core.Bool.{true};
 ghost use lib.Dec.{leb};
 
 // ---- before the list is written
 
-// A refusal; or where the AppID's label begins and ends, whether a rule goes deeper, and where the selected ids stand.
+// A refusal; or the AppID's owner, and where the selected ids stand.
 pub enum Ready {
     Refused(Refusal),
-    Listed(usize, usize, bool, usize),
+    Listed(Owner, usize),
 }
 
 // Refusals 2, 3 and 9 to 13.
 pub fn prepare(appid: &[u8], major: u16, minor: u16, body: &[u8], table: &[u8]) -> Ready
     ensures { λ r. ⌜ Prepares (now (appid .entry)) major minor (now (body .entry)) (now (table .entry)) r ⌝ }
 {
-    if decision::is_bad_appid(appid) {
-        return Ready::Refused(Refusal::BadAppId);
-    }
-    if origin::begins_https(appid) {
-        return match trusted_list::select(body, major, minor) {
+    match entries::read_appid(appid) {
+        AppId::Bad => Ready::Refused(Refusal::BadAppId),
+        AppId::Foreign => Ready::Refused(Refusal::ForeignAppId),
+        AppId::Url(end) => match trusted_list::select(body, major, minor) {
             Selection::Refused(x) => Ready::Refused(x),
-            Selection::Ids(ids) => match causes::find_owner(appid, table) {
+            Selection::Ids(ids) => match entries::find_owner(appid, end, table) {
                 AppOwner::BadTable => Ready::Refused(Refusal::BadTable),
-                AppOwner::Label(start, end, deeper) => Ready::Listed(start, end, deeper, ids),
+                AppOwner::Is(owner) => Ready::Listed(owner, ids),
             },
-        };
+        },
     }
-    Ready::Refused(Refusal::ForeignAppId)
 }
 
 // ---- the length of the ids
 
-// What an entry adds to the length of the list: it ends at a place, and adds so many bytes; or it is no string.
-pub enum Sized {
-    Wrong,
-    Goes(usize, usize),
-}
-
-// One entry that ends before a place.
-fn size_part(
-    first: bool,
-    label: &[u8],
-    deeper: bool,
-    entry: &[u8],
-    end: usize,
-    table: &[u8],
-) -> Sized
-    ensures { λ r. ⌜ SizedPart first (now (table .entry)) (now (label .entry)) deeper (now (entry .entry)) end r × Small r ⌝ }
+// What a kept entry adds to the length of the ids: its normal form, two quotation marks, and a comma unless it is the first.
+fn id_length(first: bool, entry: &[u8]) -> usize
+    requires { ⌜ length (now entry) ≤ 512 ⌝ }
+    ensures { λ r. ⌜ r ≡ length (idText first (normalForm (now (entry .entry)))) ⌝ }
 {
-    if 512 < entry.len() {
-        return Sized::Goes(end, 0);
+    let n = origin::normal::normal_length(entry);
+    if first {
+        return n + 2;
     }
-    match causes::judge(entry, label, deeper, table) {
-        Verdict::Kept => {
-            let n = origin::normal::normal_length(entry);
-            if first {
-                return Sized::Goes(end, n + 2);
-            }
-            Sized::Goes(end, n + 3)
-        }
-        Verdict::TooLong => Sized::Goes(end, 0),
-        Verdict::OtherScheme => Sized::Goes(end, 0),
-        Verdict::NotFacet => Sized::Goes(end, 0),
-        Verdict::OtherLabel => Sized::Goes(end, 0),
-    }
-}
-
-// An entry that may have escapes, decoded first.
-fn size_escaped(
-    first: bool,
-    label: &[u8],
-    deeper: bool,
-    body: &[u8],
-    at: usize,
-    table: &[u8],
-) -> Sized
-    ensures { λ r. ⌜ SizedIs first (now (table .entry)) (now (label .entry)) deeper (now (body .entry)) at r × Small r ⌝ }
-{
-    let t = json_text::decoding::decode_string(body, at);
-    let e = t.end;
-    let Next::At(j) = e else {
-        return Sized::Wrong;
-    };
-    let d = t.decoded;
-    if d.long {
-        return Sized::Goes(j, 0);
-    }
-    let n = d.len;
-    if 512 < n {
-        return Sized::Goes(j, 0);
-    }
-    let bytes = d.bytes;
-    size_part(first, label, deeper, &bytes[0..n], j, table)
-}
-
-// An entry without escapes is judged where it stands.
-fn size_entry(
-    first: bool,
-    label: &[u8],
-    deeper: bool,
-    body: &[u8],
-    at: usize,
-    table: &[u8],
-) -> Sized
-    ensures { λ r. ⌜ SizedIs first (now (table .entry)) (now (label .entry)) deeper (now (body .entry)) at r × Small r ⌝ }
-{
-    let Next::At(q) = json_text::strings::plain_end(body, at) else {
-        return size_escaped(first, label, deeper, body, at, table);
-    };
-    let from = at + 1;
-    size_part(first, label, deeper, &body[from..q], q + 1, table)
+    n + 3
 }
 
 // The length of the ids as they are written.
-fn ids_length(
-    appid: &[u8],
-    start: usize,
-    end: usize,
-    deeper: bool,
-    body: &[u8],
-    ids: usize,
-    table: &[u8],
-) -> usize
-    requires { ⌜ Owned (now appid) (now table) start end deeper × IdsThere (now body) ids × (length (now body) ≤ 65536) ⌝ }
+fn ids_length(appid: &[u8], owner: Owner, body: &[u8], ids: usize, table: &[u8]) -> usize
+    requires { ⌜ Owned (now appid) (now table) owner × IdsThere (now body) ids × (length (now body) ≤ 65536) ⌝ }
     ensures { λ r. ⌜ r ≡ length (idsText true (names (now (appid .entry)) (now (table .entry)) (entriesAt (now (body .entry)) ids))) ⌝ }
 {
-    let Next::At(i) = trusted_list::first_entry(body, ids) else {
-        return 0;
+    let mut d = Decoded {
+        bytes: [0u8; 512],
+        len: 0,
     };
-    let mut at = i;
+    let mut at = trusted_list::first_entry(body, ids);
     let mut n = 0;
     loop {
-        match size_entry(n == 0, &appid[start..end], deeper, body, at, table) {
-            Sized::Wrong => {
-                return n;
+        let Next::At(i) = at else {
+            return n;
+        };
+        match entries::read_entry(&mut d.bytes, body, i, appid, owner, table) {
+            Entry::Kept(len, next) => {
+                d.len = len;
+                n += id_length(n == 0, ascii::prefix(&d.bytes, d.len));
+                at = next;
             }
-            Sized::Goes(j, k) => {
-                n += k;
-                let Next::At(after) = trusted_list::next_entry(body, j) else {
-                    return n;
-                };
-                at = after;
+            Entry::Discarded(_, next) => {
+                at = next;
             }
         }
     }
 }
 
 // ---- the bytes of the ids
-
-// An entry ends at a place, and the next id is written at another; or it is no string.
-pub enum Put {
-    Stuck,
-    Moves(usize, usize),
-}
 
 // What stands before an id.
 fn write_opening(first: bool, out: &mut [u8], at: usize) -> usize
@@ -186,120 +108,36 @@ fn write_id(first: bool, entry: &[u8], out: &mut [u8], at: usize) -> usize
     origin::normal::write_bytes(b"\"", out, b)
 }
 
-// One entry that ends before a place: its id, where it is kept.
-fn write_part(
-    first: bool,
-    label: &[u8],
-    deeper: bool,
-    entry: &[u8],
-    end: usize,
-    table: &[u8],
-    out: &mut [u8],
-    to: usize,
-) -> Put
-    ensures { λ r. ⌜ PutPart first (now (table .entry)) (now (label .entry)) deeper (now (entry .entry)) end to (now (out .entry)) (now (out .exit)) r ⌝ }
-{
-    match causes::judge(entry, label, deeper, table) {
-        Verdict::Kept => {
-            let m = write_id(first, entry, out, to);
-            Put::Moves(end, m)
-        }
-        Verdict::TooLong => Put::Moves(end, to),
-        Verdict::OtherScheme => Put::Moves(end, to),
-        Verdict::NotFacet => Put::Moves(end, to),
-        Verdict::OtherLabel => Put::Moves(end, to),
-    }
-}
-
-// An entry that may have escapes, decoded first.
-fn write_escaped(
-    first: bool,
-    label: &[u8],
-    deeper: bool,
-    body: &[u8],
-    at: usize,
-    table: &[u8],
-    out: &mut [u8],
-    to: usize,
-) -> Put
-    ensures { λ r. ⌜ PutIs first (now (table .entry)) (now (label .entry)) deeper (now (body .entry)) at to (now (out .entry)) (now (out .exit)) r ⌝ }
-{
-    let t = json_text::decoding::decode_string(body, at);
-    let e = t.end;
-    let Next::At(j) = e else {
-        return Put::Stuck;
-    };
-    let d = t.decoded;
-    if d.long {
-        return Put::Moves(j, to);
-    }
-    let n = d.len;
-    if 512 < n {
-        return Put::Moves(j, to);
-    }
-    let bytes = d.bytes;
-    write_part(first, label, deeper, &bytes[0..n], j, table, out, to)
-}
-
-// An entry without escapes is judged where it stands.
-fn write_entry(
-    first: bool,
-    label: &[u8],
-    deeper: bool,
-    body: &[u8],
-    at: usize,
-    table: &[u8],
-    out: &mut [u8],
-    to: usize,
-) -> Put
-    ensures { λ r. ⌜ PutIs first (now (table .entry)) (now (label .entry)) deeper (now (body .entry)) at to (now (out .entry)) (now (out .exit)) r ⌝ }
-{
-    let Next::At(q) = json_text::strings::plain_end(body, at) else {
-        return write_escaped(first, label, deeper, body, at, table, out, to);
-    };
-    let from = at + 1;
-    write_part(first, label, deeper, &body[from..q], q + 1, table, out, to)
-}
-
 // The ids, from a place of the output on.
 fn write_ids(
     appid: &[u8],
-    start: usize,
-    end: usize,
-    deeper: bool,
+    owner: Owner,
     body: &[u8],
     ids: usize,
     table: &[u8],
     out: &mut [u8],
     begin: usize,
 ) -> usize
-    requires { ⌜ Owned (now appid) (now table) start end deeper × IdsThere (now body) ids × (begin + length (idsText true (names (now appid) (now table) (entriesAt (now body) ids))) ≤ length (now out)) ⌝ }
+    requires { ⌜ Owned (now appid) (now table) owner × IdsThere (now body) ids × (begin + length (idsText true (names (now appid) (now table) (entriesAt (now body) ids))) ≤ length (now out)) ⌝ }
     ensures { λ r. ⌜ Wrote (idsText true (names (now (appid .entry)) (now (table .entry)) (entriesAt (now (body .entry)) ids))) begin (now (out .entry)) (now (out .exit)) r ⌝ }
 {
-    let Next::At(i) = trusted_list::first_entry(body, ids) else {
-        return begin;
+    let mut d = Decoded {
+        bytes: [0u8; 512],
+        len: 0,
     };
-    let mut at = i;
+    let mut at = trusted_list::first_entry(body, ids);
     let mut to = begin;
     loop {
-        match write_entry(
-            to == begin,
-            &appid[start..end],
-            deeper,
-            body,
-            at,
-            table,
-            out,
-            to,
-        ) {
-            Put::Stuck => {
-                return to;
+        let Next::At(i) = at else {
+            return to;
+        };
+        match entries::read_entry(&mut d.bytes, body, i, appid, owner, table) {
+            Entry::Kept(len, next) => {
+                d.len = len;
+                to = write_id(to == begin, ascii::prefix(&d.bytes, d.len), out, to);
+                at = next;
             }
-            Put::Moves(j, m) => {
-                to = m;
-                let Next::At(next) = trusted_list::next_entry(body, j) else {
-                    return to;
-                };
+            Entry::Discarded(_, next) => {
                 at = next;
             }
         }
@@ -324,9 +162,7 @@ fn decimal_length(n: u16) -> usize
 // The list goes into so many bytes. It is never longer than the body.
 fn has_room(
     appid: &[u8],
-    start: usize,
-    end: usize,
-    deeper: bool,
+    owner: Owner,
     major: u16,
     minor: u16,
     body: &[u8],
@@ -334,13 +170,13 @@ fn has_room(
     table: &[u8],
     room: usize,
 ) -> bool
-    requires { ⌜ ListedAt (now appid) major minor (now body) (now table) start end deeper ids ⌝ }
+    requires { ⌜ ListedAt (now appid) major minor (now body) (now table) owner ids ⌝ }
     ensures { λ r. ⌜ r ≡ leb (length (cleanedList (now (appid .entry)) major minor (now (body .entry)) (now (table .entry)))) room ⌝ }
 {
     if body.len() <= room {
         return true;
     }
-    let n = ids_length(appid, start, end, deeper, body, ids, table);
+    let n = ids_length(appid, owner, body, ids, table);
     let a = decimal_length(major);
     let b = decimal_length(minor);
     n + a + b + 60 <= room
@@ -371,9 +207,7 @@ fn write_head(major: u16, minor: u16, out: &mut [u8]) -> usize
 // Refusal 15 before any byte is written, or the list.
 fn write_list(
     appid: &[u8],
-    start: usize,
-    end: usize,
-    deeper: bool,
+    owner: Owner,
     major: u16,
     minor: u16,
     body: &[u8],
@@ -381,24 +215,13 @@ fn write_list(
     table: &[u8],
     out: &mut [u8],
 ) -> Output
-    requires { ⌜ ListedAt (now appid) major minor (now body) (now table) start end deeper ids ⌝ }
+    requires { ⌜ ListedAt (now appid) major minor (now body) (now table) owner ids ⌝ }
     ensures { λ r. ⌜ Cleans (now (out .entry)) (now (out .exit)) (fitting (length (now (out .entry))) (cleanedList (now (appid .entry)) major minor (now (body .entry)) (now (table .entry)))) r ⌝ }
 {
     let room = out.len();
-    if has_room(
-        appid,
-        start,
-        end,
-        deeper,
-        major,
-        minor,
-        body,
-        ids,
-        table,
-        room,
-    ) {
+    if has_room(appid, owner, major, minor, body, ids, table, room) {
         let a = write_head(major, minor, out);
-        let b = write_ids(appid, start, end, deeper, body, ids, table, out, a);
+        let b = write_ids(appid, owner, body, ids, table, out, a);
         let n = origin::normal::write_bytes(b"]}]}", out, b);
         return Output::Length(n);
     }
@@ -417,17 +240,6 @@ pub fn clean(
 {
     match prepare(appid, major, minor, body, table) {
         Ready::Refused(x) => Output::Refused(x),
-        Ready::Listed(start, end, deeper, ids) => write_list(
-            appid,
-            start,
-            end,
-            deeper,
-            major,
-            minor,
-            body,
-            ids,
-            table,
-            out,
-        ),
+        Ready::Listed(owner, ids) => write_list(appid, owner, major, minor, body, ids, table, out),
     }
 }

@@ -1,6 +1,5 @@
 pub mod StageLaws
-pub mod EntrySteps
-pub mod PlainEntry
+pub mod SeekLaws
 pub mod ListLaws
 pub mod Laws
 pub mod Padding

@@ -13,7 +13,7 @@ use Rattle.origin.specs.code.Parts.{part}
 use Rattle.refusals.specs.declared.Refusal.{Refusal}
 use Rattle.refusals.specs.declared.Refusal.the-variants.{NotFetched, WrongType, BadTable, NotListed}
 use Rattle.trusted_list.specs.TrustedList.{listRefusal, entries}
-use Rattle.trusted_list.specs.code.Slots.{idsAt, Answers, is-refused, is-selected}
+use Rattle.trusted_list.specs.code.Slots.{Answers}
 use Rattle.trusted_list.specs.declared.Selection.{Selection}
 use Rattle.trusted_list.specs.declared.Selection.the-variants.{Refused as ListRefused, Ids}
 use Rattle.fetch_record.specs.Record.{Redirect, lastHop}
@@ -22,14 +22,17 @@ use Rattle.fetch_record.specs.declared.item.Answer.{Answer as Response}
 use Rattle.fetch_record.specs.declared.Target.{Target}
 use Rattle.fetch_record.specs.declared.Target.the-variants.{NoRedirect, Part}
 use Rattle.fetch_record.proofs.CallerLaws.{target-start, target-end, target-some, target-none}
-use Rattle.causes.specs.Causes.{kept}
-use Rattle.causes.specs.code.Owner.{OwnedBy, bad-table, owned}
-use Rattle.causes.specs.declared.AppOwner.{AppOwner}
-use Rattle.causes.specs.declared.AppOwner.the-variants.{BadTable as NoTable, Label}
+use Rattle.entries.specs.Causes.{kept}
+use Rattle.entries.specs.code.Owner.{HostEnds, OwnedBy}
+use Rattle.entries.specs.code.Reading.{IdsThere, entriesAt}
+use Rattle.entries.specs.declared.Owner.{Owner}
+use Rattle.entries.specs.declared.AppOwner.{AppOwner}
+use Rattle.entries.specs.declared.AppOwner.the-variants.{BadTable as NoTable, Is}
+use Rattle.entries.proofs.Tellings.{no-table, some-table, list-refused, list-accepted, list-ids, entries-of}
 use Rattle.decision.specs.Answer.{refused}
 use Rattle.decision.specs.Decide.{listDue, beforeList, firstMatch, lateRefusal, byPlace, unless, byList, decide}
 use Rattle.decision.specs.Location.{fetchFrom, ifFetch, fetchLocation, Source, nowhere, sourceFrom, sourceIfFetch, fetchSource}
-use Rattle.decision.specs.code.Meaning.{answerOf, stageOf, Owned, IdsThere, entriesAt, matchOf, byEntries, locationOf, Inside, no-place, app-place, text-place, Stands, at-nowhere, at-app, at-hop, Locates}
+use Rattle.decision.specs.code.Meaning.{answerOf, stageOf, Hosted, settled-so, due-there, Before, matchOf, byEntries, locationOf, Inside, no-place, app-place, text-place, Stands, at-nowhere, at-app, at-hop, Locates}
 use Rattle.decision.specs.declared.Answer.{Answer}
 use Rattle.decision.specs.declared.Answer.the-variants.{Rule1, Rule2, Rule3, Rule4, Fetch, Refused}
 use Rattle.decision.specs.declared.Stage.{Stage}
@@ -50,58 +53,18 @@ module _ (m : Match) where
   unfolding answerOf matchOf
   match-none e = rw e
 
--- ---- what the AppID's owner and the selection tell, for every reader of a list
-
-module _ {appid table : Bytes} where
-  pub no-table : {w : AppOwner} → OwnedBy appid table w → w ≡ NoTable → readTable table ≡ none
-  no-table (bad-table t) h = t
-  no-table (owned a b c d) h = let z : _≡_ {A = ℕ} 0 1 = cc in absurd (omega arith)
-
-  pub some-table : {w : AppOwner} {i j : ℕ} {d : Bool} → OwnedBy appid table w → w ≡ Label i j d → isNone (readTable table) ≡ false
-  some-table (bad-table t) h = let z : _≡_ {A = ℕ} 0 1 = cc in absurd (omega arith)
-  some-table (owned a b c d) h = a
-
-module _ {major minor : ℕ} {body : Bytes} where
-  pub list-refused : {q : Selection} {x : Refusal} → Answers major minor body q → q ≡ ListRefused x → listRefusal major minor body ≡ some x
-  list-refused (is-refused {r} e) h = e ∙ ap some cc
-  list-refused (is-selected e f) h = let z : _≡_ {A = ℕ} 0 1 = cc in absurd (omega arith)
-
-  pub list-accepted : {q : Selection} {p : ℕ} → Answers major minor body q → q ≡ Ids p → listRefusal major minor body ≡ none
-  list-accepted (is-refused e) h = let z : _≡_ {A = ℕ} 0 1 = cc in absurd (omega arith)
-  list-accepted (is-selected e f) h = e
-
-  pub list-ids : {q : Selection} {p : ℕ} → Answers major minor body q → q ≡ Ids p → idsAt body p ≡ some (entries major minor body)
-  list-ids (is-refused e) h = let z : _≡_ {A = ℕ} 0 1 = cc in absurd (omega arith)
-  list-ids {p} (is-selected {p = i} e f) h = let y : i ≡ p = cc in rw (← y) f
-
-pub entries-of : (body : Bytes) (ids : ℕ) {xs : List Bytes} → idsAt body ids ≡ some xs → entriesAt body ids ≡ xs
-unfolding entriesAt
-entries-of body ids e = rw e
-
 -- ---- the ids
 
-module _ (caller appid table : Bytes) (es : List Bytes) {w : AppOwner} (O : OwnedBy appid table w) where
+module _ (caller appid : Bytes) {end : ℕ} (table : Bytes) (es : List Bytes) {w : AppOwner} (O : OwnedBy appid end table w) where
   pub ids-bad : w ≡ NoTable → answerOf (Refused BadTable) ≡ byEntries caller appid table es
   ids-bad h = unfold answerOf byEntries in (rw (no-table O h))
 
-  module _ {i j : ℕ} {d : Bool} (h : w ≡ Label i j d) where
-    pub ids-owned : Owned appid table i j d
-    ids-owned = go O h
-      where
-        go : {w : AppOwner} → OwnedBy appid table w → w ≡ Label i j d → Owned appid table i j d
-        go (bad-table t) h = let z : _≡_ {A = ℕ} 0 1 = cc in absurd (omega arith)
-        go (owned {start} {end} {deeper} a b c o) h =
-            let x : start ≡ i = cc in
-            let y : end ≡ j = cc in
-            let z : deeper ≡ d = cc in
-            rw (← x, ← y, ← z) (record { low = b; high = c; is = unfold part in o })
-
-    pub ids-matched : (m : Match) (r : Answer) → matchOf m ≡ firstMatch caller (kept appid table es) → answerOf r ≡ byPlace (matchOf m) → answerOf r ≡ byEntries caller appid table es
-    ids-matched m r e f = f ∙ ap byPlace e ∙ by (readTable table) refl (some-table O h)
-      where
-        by : (o : Option (List Rule)) → readTable table ≡ o → isNone o ≡ false → byPlace (firstMatch caller (kept appid table es)) ≡ byEntries caller appid table es
-        by none t n = let z : _≡_ {A = ℕ} 0 1 = cc in absurd (omega arith)
-        by (some rs) t n = unfold byEntries in (rw t)
+  pub ids-matched : {o : Owner} (m : Match) (r : Answer) → w ≡ Is o → matchOf m ≡ firstMatch caller (kept appid table es) → answerOf r ≡ byPlace (matchOf m) → answerOf r ≡ byEntries caller appid table es
+  ids-matched m r h e f = f ∙ ap byPlace e ∙ by (readTable table) refl (some-table O h)
+    where
+      by : (o : Option (List Rule)) → readTable table ≡ o → isNone o ≡ false → byPlace (firstMatch caller (kept appid table es)) ≡ byEntries caller appid table es
+      by none t n = let z : _≡_ {A = ℕ} 0 1 = cc in absurd (omega arith)
+      by (some rs) t n = unfold byEntries in (rw t)
 
 -- ---- refusals 7 to 13
 
@@ -143,14 +106,22 @@ module _ (caller appid : Bytes) (major minor : ℕ) (body table : Bytes) (a : Re
 
 -- ---- the decision
 
-module _ (caller appid : Bytes) (major minor : ℕ) (items lent body table : Bytes) (q : Stage) (e : stageOf q ≡ beforeList caller appid items lent) where
+module _ (caller appid : Bytes) (major minor : ℕ) (items lent body table : Bytes) (q : Stage) (B : Before caller appid items lent q) where
   pub decide-settled : {a : Answer} → q ≡ Settled a → answerOf a ≡ decide caller appid major minor items lent body table
   unfolding decide stageOf byList
-  decide-settled h = let x = rw h at e in rw (← x)
+  decide-settled h = let x = rw h at (B .is) in rw (← x)
 
-  pub decide-due : {a : Response} (r : Answer) → q ≡ ListDue a → answerOf r ≡ byList caller appid major minor body table (listDue (responseOf a)) → answerOf r ≡ decide caller appid major minor items lent body table
-  unfolding decide stageOf
-  decide-due r h g = let x = rw h at e in g ∙ ap (byList caller appid major minor body table) x
+  module _ {a : Response} {end : ℕ} (h : q ≡ ListDue a end) where
+    pub decide-host : HostEnds appid end
+    decide-host = go (B .host) h
+      where
+        go : {q : Stage} → Hosted appid q → q ≡ ListDue a end → HostEnds appid end
+        go settled-so h = let z : _≡_ {A = ℕ} 0 1 = cc in absurd (omega arith)
+        go (due-there {end = k} E) h = let x : k ≡ end = cc in rw x at E
+
+    pub decide-due : (r : Answer) → answerOf r ≡ byList caller appid major minor body table (listDue (responseOf a)) → answerOf r ≡ decide caller appid major minor items lent body table
+    unfolding decide stageOf
+    decide-due r g = let x = rw h at (B .is) in g ∙ ap (byList caller appid major minor body table) x
 
 -- ---- the fetch location
 
@@ -175,7 +146,7 @@ module _ (appid items lent : Bytes) {q : Target} (T : Targets lent (target items
       go : target items lent ≡ some (take (b - a) (drop a lent)) → locationOf appid lent (Text a b) ≡ fetchFrom appid items lent
       go e = unfold locationOf fetchFrom target part in (rw e)
 
-module _ (caller appid items lent : Bytes) (q : Stage) (e : stageOf q ≡ beforeList caller appid items lent) where
+module _ (caller appid items lent : Bytes) (q : Stage) (B : Before caller appid items lent q) where
   nothing-at : ifFetch (beforeList caller appid items lent) (fetchFrom appid items lent) ≡ [] → sourceIfFetch (beforeList caller appid items lent) (sourceFrom (lastHop items lent)) ≡ nowhere → Locates appid lent (fetchLocation caller appid items lent) (fetchSource caller appid items lent) Nothing
   nothing-at h n = record { is = go h; inside = no-place; stands = stand n }
     where
@@ -185,18 +156,18 @@ module _ (caller appid items lent : Bytes) (q : Stage) (e : stageOf q ≡ before
       go : ifFetch (beforeList caller appid items lent) (fetchFrom appid items lent) ≡ [] → locationOf appid lent Nothing ≡ fetchLocation caller appid items lent
       go h = unfold locationOf fetchLocation in (sym h)
 
-  pub locate-due : {a : Response} → q ≡ ListDue a → Locates appid lent (fetchLocation caller appid items lent) (fetchSource caller appid items lent) Nothing
-  locate-due {a} h = nothing-at (go a (rw h at e)) (from a (rw h at e))
+  pub locate-due : {a : Response} {end : ℕ} → q ≡ ListDue a end → Locates appid lent (fetchLocation caller appid items lent) (fetchSource caller appid items lent) Nothing
+  locate-due {a} {end} h = nothing-at (go a (rw h at (B .is))) (from a (rw h at (B .is)))
     where
-      from : (a : Response) → stageOf (ListDue a) ≡ beforeList caller appid items lent → sourceIfFetch (beforeList caller appid items lent) (sourceFrom (lastHop items lent)) ≡ nowhere
+      from : (a : Response) → stageOf (ListDue a end) ≡ beforeList caller appid items lent → sourceIfFetch (beforeList caller appid items lent) (sourceFrom (lastHop items lent)) ≡ nowhere
       from a x = unfold stageOf sourceIfFetch in (rw (← x))
 
-      go : (a : Response) → stageOf (ListDue a) ≡ beforeList caller appid items lent → ifFetch (beforeList caller appid items lent) (fetchFrom appid items lent) ≡ []
+      go : (a : Response) → stageOf (ListDue a end) ≡ beforeList caller appid items lent → ifFetch (beforeList caller appid items lent) (fetchFrom appid items lent) ≡ []
       go a x = unfold stageOf ifFetch in (rw (← x))
 
   module _ {a : Answer} (h : q ≡ Settled a) where
     pub locate-fetch : {r : Location} → a ≡ Fetch → Locates appid lent (fetchFrom appid items lent) (sourceFrom (lastHop items lent)) r → Locates appid lent (fetchLocation caller appid items lent) (fetchSource caller appid items lent) r
-    locate-fetch f L = record { is = L .is ∙ go (rw (h, f) at e); inside = L .inside; stands = rw (← from (rw (h, f) at e)) (L .stands) }
+    locate-fetch f L = record { is = L .is ∙ go (rw (h, f) at (B .is)); inside = L .inside; stands = rw (← from (rw (h, f) at (B .is))) (L .stands) }
       where
         from : stageOf (Settled Fetch) ≡ beforeList caller appid items lent → sourceFrom (lastHop items lent) ≡ fetchSource caller appid items lent
         from x = unfold fetchSource stageOf answerOf sourceIfFetch in (rw (← x))
@@ -205,7 +176,7 @@ module _ (caller appid items lent : Bytes) (q : Stage) (e : stageOf q ≡ before
         go x = unfold fetchLocation stageOf answerOf ifFetch in (rw (← x))
 
     other : (b : Answer) → a ≡ b → ifFetch (stageOf (Settled b)) (fetchFrom appid items lent) ≡ [] → sourceIfFetch (stageOf (Settled b)) (sourceFrom (lastHop items lent)) ≡ nowhere → Locates appid lent (fetchLocation caller appid items lent) (fetchSource caller appid items lent) Nothing
-    other b f z n = let x : stageOf (Settled b) ≡ beforeList caller appid items lent = rw (h, f) at e in nothing-at (rw (← x) z) (rw (← x) n)
+    other b f z n = let x : stageOf (Settled b) ≡ beforeList caller appid items lent = rw (h, f) at (B .is) in nothing-at (rw (← x) z) (rw (← x) n)
 
     pub locate-rule1 : a ≡ Rule1 → Locates appid lent (fetchLocation caller appid items lent) (fetchSource caller appid items lent) Nothing
     locate-rule1 f = other Rule1 f (unfold stageOf answerOf ifFetch in refl) (unfold stageOf answerOf sourceIfFetch in refl)

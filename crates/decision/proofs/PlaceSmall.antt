@@ -15,7 +15,7 @@ use Rattle.refusals.specs.declared.Refusal.{Refusal}
 use Rattle.refusals.specs.declared.Refusal.the-variants.{NotFetched, WrongType, LongList, BadTable}
 use Rattle.trusted_list.specs.TrustedList.{selected, listRefusal, entries}
 use Rattle.trusted_list.proofs.Bound.{stringsSize, idsSize, listingSize, listSize, selected-fits}
-use Rattle.causes.specs.Causes.{cause, kept}
+use Rattle.entries.specs.Causes.{cause, kept}
 use Rattle.decision.specs.Answer.{rule4}
 use Rattle.decision.specs.Decide.{Stage, settled, listDue, beforeList, firstMatch, lateRefusal, byPlace, unless, byList, decide}
 use Rattle.decision.proofs.Rule4.{NoRule4, before-list}

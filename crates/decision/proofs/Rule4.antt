@@ -16,11 +16,12 @@ use Rattle.ascii.proofs.Compare.{same-eq}
 use Rattle.refusals.specs.declared.Refusal.{Refusal}
 use Rattle.trusted_list.specs.TrustedList.{entries}
 use Rattle.fetch_record.specs.Fetching.{Fetching, refused as hopRefused, fetch as mustFetch, answered, fetching}
-use Rattle.causes.specs.Causes.{appLabel, labelsAgree, isOtherLabel, kept}
-use Rattle.causes.proofs.KeptTests.{isKept, kept-passes, kept-each}
+use Rattle.entries.specs.Causes.{labelsAgree, isOtherLabel, kept}
+use Rattle.entries.proofs.KeptTests.{isKept, kept-passes, kept-each}
 use Rattle.decision.specs.SameLabel.{SameLabel}
 use Rattle.decision.specs.Answer.{rule1, rule2, rule3, rule4, fetch, refused}
-use Rattle.decision.specs.Decide.{isBadAppId, Stage, settled, listDue, byFetch, beforeList, firstMatch, lateRefusal, byPlace, unless, byList, decide}
+use Rattle.entries.specs.AppId.{isBadAppId, appLabel}
+use Rattle.decision.specs.Decide.{Stage, settled, listDue, byFetch, beforeList, firstMatch, lateRefusal, byPlace, unless, byList, decide}
 
 -- ---- before the list nothing answers rule 4
 

@@ -1,19 +1,13 @@
 -- What is settled before the list: one law for each way through the code.
 use mathlib.Core.Path.{_≡_, refl, sym, ap, _∙_}
-use mathlib.Core.Bool.{Bool, true, false, _&&_, _||_}
+use mathlib.Core.Bool.{Bool, true, false, _&&_, not}
 use mathlib.Core.List.{[], _∷_}
-use Prim.Native.Nat.{_≤_, _<_}
+use Prim.Native.Nat.{ℕ}
 use native.Mathlib.Omega.{arith}
 use lib.ListN.{length}
-use borrow.Author.Tests.{lt-ltb, le-ltb}
-use Rattle.ascii.specs.Ascii.{Bytes, if_then_else_, isEmpty, same}
+use Rattle.ascii.specs.Ascii.{Bytes, if_then_else_, isEmpty, same, lower, beginsWith, beginsWithNoCase}
 use Rattle.origin.specs.Origin.{beginsHttps, httpsUrl, webOrigin, isFacet}
 use Rattle.origin.specs.Matching.{sameHost}
-use Rattle.origin.specs.code.Parts.{authorityIn, Reads}
-use Rattle.origin.specs.declared.Parts.{Parts}
-use Rattle.origin.specs.declared.Reading.{Reading}
-use Rattle.origin.specs.declared.Reading.the-variants.{Found, Malformed}
-use Rattle.origin.proofs.Readings.{found, is-none}
 use Rattle.refusals.specs.declared.Refusal.{Refusal}
 use Rattle.refusals.specs.declared.Refusal.the-variants.{Stranger, BadAppId, ForeignAppId}
 use Rattle.fetch_record.specs.Fetching.{fetching}
@@ -21,51 +15,15 @@ use Rattle.fetch_record.specs.code.Meaning.{outcomeOf}
 use Rattle.fetch_record.specs.declared.item.Answer.{Answer as Response}
 use Rattle.fetch_record.specs.declared.Outcome.{Outcome}
 use Rattle.fetch_record.specs.declared.Outcome.the-variants.{Refused as HopRefused, Fetch as MustFetch, Answered}
-use Rattle.decision.specs.Decide.{isBadAppId, byFetch, beforeList}
-use Rattle.decision.specs.code.Meaning.{answerOf, stageOf}
+use Rattle.entries.specs.AppId.{isBadAppId}
+use Rattle.entries.specs.code.Owner.{AppIdIs}
+use Rattle.entries.specs.declared.AppId.{AppId}
+use Rattle.entries.specs.declared.AppId.the-variants.{Bad, Foreign, Url}
+use Rattle.entries.proofs.Tellings.{told-bad, told-foreign, told-url, told-host}
+use Rattle.decision.specs.Decide.{byFetch, beforeList}
+use Rattle.decision.specs.code.Meaning.{answerOf, stageOf, settled-so, due-there, Before}
 use Rattle.decision.specs.declared.Answer.the-variants.{Rule1, Rule2, Rule3, Fetch, Refused}
-use Rattle.decision.specs.declared.Stage.{Stage}
 use Rattle.decision.specs.declared.Stage.the-variants.{Settled, ListDue}
-
--- ---- the record
-
-module _ (o : Outcome) where
-  pub fetch-refused : {x : Refusal} → o ≡ HopRefused x → stageOf (Settled (Refused x)) ≡ byFetch (outcomeOf o)
-  unfolding stageOf answerOf byFetch outcomeOf
-  fetch-refused e = rw e
-
-  pub fetch-must : o ≡ MustFetch → stageOf (Settled Fetch) ≡ byFetch (outcomeOf o)
-  unfolding stageOf answerOf byFetch outcomeOf
-  fetch-must e = rw e
-
-  pub fetch-answered : {a : Response} → o ≡ Answered a → stageOf (ListDue a) ≡ byFetch (outcomeOf o)
-  unfolding stageOf byFetch outcomeOf
-  fetch-answered e = rw e
-
--- ---- the AppID
-
-module _ (a : Bytes) where
-  pub appid-long : 2048 < length a → true ≡ isBadAppId a
-  unfolding isBadAppId
-  appid-long h = rw (lt-ltb 2048 (length a) h)
-
-  module _ (l : length a ≤ 2048) {b : Bool} (g : b ≡ beginsHttps a) where
-    pub appid-other : b ≡ false → false ≡ isBadAppId a
-    unfolding isBadAppId
-    appid-other h = rw (le-ltb 2048 (length a) l, sym g ∙ h)
-
-    module _ (h : b ≡ true) {q : Reading} (R : Reads a (httpsUrl a) q) where
-      pub appid-no-url : q ≡ Malformed → true ≡ isBadAppId a
-      unfolding isBadAppId
-      appid-no-url n = rw (le-ltb 2048 (length a) l, sym g ∙ h, ← is-none R n)
-
-      pub appid-url : {p : Parts} → q ≡ Found p → false ≡ isBadAppId a
-      appid-url f = go (found R f)
-        where
-          go : {p : Parts} → Reads a (httpsUrl a) (Found p) → false ≡ isBadAppId a
-          go F = unfold isBadAppId authorityIn in (rw (le-ltb 2048 (length a) l, sym g ∙ h, ← F .is))
-
--- ---- in the document's order
 
 empty-is : (s : Bytes) → length s ≡ 0 → isEmpty s ≡ true
 empty-is [] e = refl
@@ -75,38 +33,79 @@ empty-not : (s : Bytes) → (length s ≡ 0 → ⊥) → isEmpty s ≡ false
 empty-not [] n = absurd (n refl)
 empty-not (b ∷ s) n = refl
 
+https-some : (s : Bytes) → beginsHttps s ≡ true → isEmpty s ≡ false
+unfolding beginsHttps beginsWithNoCase beginsWith lower
+https-some [] h = let z : _≡_ {A = ℕ} 0 1 = cc in absurd (omega arith)
+https-some (b ∷ s) h = refl
+
 module _ (caller appid items lent : Bytes) {f : Bool} (F : f ≡ isFacet caller) where
-  pub stage-stranger : f ≡ false → stageOf (Settled (Refused Stranger)) ≡ beforeList caller appid items lent
-  unfolding stageOf answerOf beforeList
-  stage-stranger h = rw (sym F ∙ h)
+  pub stage-stranger : f ≡ false → Before caller appid items lent (Settled (Refused Stranger))
+  stage-stranger h = record { is = go; host = settled-so }
+    where
+      go : stageOf (Settled (Refused Stranger)) ≡ beforeList caller appid items lent
+      go = unfold stageOf answerOf beforeList in (rw (sym F ∙ h))
 
-  module _ (f-is : f ≡ true) {b : Bool} (B : b ≡ isBadAppId appid) where
-    pub stage-bad : b ≡ true → stageOf (Settled (Refused BadAppId)) ≡ beforeList caller appid items lent
-    unfolding stageOf answerOf beforeList
-    stage-bad h = rw (sym F ∙ f-is, sym B ∙ h)
+  module _ (f-is : f ≡ true) {a : AppId} (A : AppIdIs appid a) where
+    pub stage-bad : a ≡ Bad → Before caller appid items lent (Settled (Refused BadAppId))
+    stage-bad h = record { is = go (told-bad A h); host = settled-so }
+      where
+        go : isBadAppId appid ≡ true → stageOf (Settled (Refused BadAppId)) ≡ beforeList caller appid items lent
+        go b = unfold stageOf answerOf beforeList in (rw (sym F ∙ f-is, b))
 
-    module _ (b-is : b ≡ false) where
-      pub stage-empty : length appid ≡ 0 → stageOf (Settled Rule2) ≡ beforeList caller appid items lent
-      unfolding stageOf answerOf beforeList
-      stage-empty h = rw (sym F ∙ f-is, sym B ∙ b-is, empty-is appid h)
+    module _ (h : a ≡ Foreign) where
+      T : (isBadAppId appid ≡ false) × (beginsHttps appid ≡ false)
+      T = told-foreign A h
 
-      module _ (n : length appid ≡ 0 → ⊥) {w : Bool} (W : w ≡ beginsHttps appid) where
-        module _ (w-is : w ≡ true) {s : Bool} (S : s ≡ sameHost (webOrigin caller) (httpsUrl appid)) where
-          pub stage-same : s ≡ true → stageOf (Settled Rule3) ≡ beforeList caller appid items lent
-          unfolding stageOf answerOf beforeList
-          stage-same h = rw (sym F ∙ f-is, sym B ∙ b-is, empty-not appid n, sym W ∙ w-is, sym S ∙ h)
+      pub stage-empty : length appid ≡ 0 → Before caller appid items lent (Settled Rule2)
+      stage-empty e = record { is = go; host = settled-so }
+        where
+          go : stageOf (Settled Rule2) ≡ beforeList caller appid items lent
+          go = unfold stageOf answerOf beforeList in (rw (sym F ∙ f-is, T .0, empty-is appid e))
 
-          pub stage-fetch : (o : Outcome) (r : Stage) → s ≡ false → outcomeOf o ≡ fetching items lent → stageOf r ≡ byFetch (outcomeOf o) → stageOf r ≡ beforeList caller appid items lent
-          unfolding beforeList
-          stage-fetch o r h e g = g ∙ ap byFetch e ∙ rw (sym F ∙ f-is, sym B ∙ b-is, empty-not appid n, sym W ∙ w-is, sym S ∙ h)
+      module _ (n : length appid ≡ 0 → ⊥) {s : Bool} (S : s ≡ same appid caller) where
+        pub stage-equal : s ≡ true → Before caller appid items lent (Settled Rule1)
+        stage-equal e = record { is = go; host = settled-so }
+          where
+            go : stageOf (Settled Rule1) ≡ beforeList caller appid items lent
+            go = unfold stageOf answerOf beforeList in (rw (sym F ∙ f-is, T .0, empty-not appid n, T .1, sym S ∙ e))
 
-        module _ (w-is : w ≡ false) {s : Bool} (S : s ≡ same appid caller) where
-          pub stage-equal : s ≡ true → stageOf (Settled Rule1) ≡ beforeList caller appid items lent
-          unfolding stageOf answerOf beforeList
-          stage-equal h = rw (sym F ∙ f-is, sym B ∙ b-is, empty-not appid n, sym W ∙ w-is, sym S ∙ h)
+        pub stage-foreign : s ≡ false → Before caller appid items lent (Settled (Refused ForeignAppId))
+        stage-foreign e = record { is = go; host = settled-so }
+          where
+            go : stageOf (Settled (Refused ForeignAppId)) ≡ beforeList caller appid items lent
+            go = unfold stageOf answerOf beforeList in (rw (sym F ∙ f-is, T .0, empty-not appid n, T .1, sym S ∙ e))
 
-          pub stage-foreign : s ≡ false → stageOf (Settled (Refused ForeignAppId)) ≡ beforeList caller appid items lent
-          unfolding stageOf answerOf beforeList
-          stage-foreign h = rw (sym F ∙ f-is, sym B ∙ b-is, empty-not appid n, sym W ∙ w-is, sym S ∙ h)
+    module _ {end : ℕ} (h : a ≡ Url end) {s : Bool} (S : s ≡ sameHost (webOrigin caller) (httpsUrl appid)) where
+      U : (isBadAppId appid ≡ false) × (beginsHttps appid ≡ true)
+      U = told-url A h
 
-pub ruleset stage-laws = (fetch-refused, fetch-must, fetch-answered, appid-long, appid-other, appid-no-url, appid-url, stage-stranger, stage-bad, stage-empty, stage-same, stage-fetch, stage-equal, stage-foreign)
+      pub stage-same : s ≡ true → Before caller appid items lent (Settled Rule3)
+      stage-same e = record { is = go; host = settled-so }
+        where
+          go : stageOf (Settled Rule3) ≡ beforeList caller appid items lent
+          go = unfold stageOf answerOf beforeList in (rw (sym F ∙ f-is, U .0, https-some appid (U .1), U .1, sym S ∙ e))
+
+      module _ (n : s ≡ false) (o : Outcome) (e : outcomeOf o ≡ fetching items lent) where
+        by-record : byFetch (outcomeOf o) ≡ beforeList caller appid items lent
+        unfolding beforeList
+        by-record = ap byFetch e ∙ rw (sym F ∙ f-is, U .0, https-some appid (U .1), U .1, sym S ∙ n)
+
+        pub stage-refused : {x : Refusal} → o ≡ HopRefused x → Before caller appid items lent (Settled (Refused x))
+        stage-refused {x} g = record { is = go ∙ by-record; host = settled-so }
+          where
+            go : stageOf (Settled (Refused x)) ≡ byFetch (outcomeOf o)
+            go = unfold stageOf answerOf byFetch outcomeOf in (rw g)
+
+        pub stage-fetch : o ≡ MustFetch → Before caller appid items lent (Settled Fetch)
+        stage-fetch g = record { is = go ∙ by-record; host = settled-so }
+          where
+            go : stageOf (Settled Fetch) ≡ byFetch (outcomeOf o)
+            go = unfold stageOf answerOf byFetch outcomeOf in (rw g)
+
+        pub stage-due : {r : Response} → o ≡ Answered r → Before caller appid items lent (ListDue r end)
+        stage-due {r} g = record { is = go ∙ by-record; host = due-there (told-host A h) }
+          where
+            go : stageOf (ListDue r end) ≡ byFetch (outcomeOf o)
+            go = unfold stageOf byFetch outcomeOf in (rw g)
+
+pub ruleset stage-laws = (stage-stranger, stage-bad, stage-empty, stage-equal, stage-foreign, stage-same, stage-refused, stage-fetch, stage-due)

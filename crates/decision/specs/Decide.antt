@@ -1,10 +1,9 @@
 -- The decision, in document 01's order ("Fetch record and decision").
 use mathlib.Core.List.{List, [], _∷_}
-use mathlib.Core.Bool.{Bool, _&&_, _||_, not}
+use mathlib.Core.Bool.{_&&_, not}
 use mathlib.Core.Option.{Option, none, some}
 use Prim.Native.Nat.{ℕ, suc}
-use lib.ListN.{length}
-use lib.Dec.{eqb, ltb}
+use lib.Dec.{eqb}
 use Rattle.ascii.specs.Ascii.{Bytes, if_then_else_, _>>=_, _when_, _orElse_, isNone, isEmpty, same}
 use Rattle.suffix.specs.Suffix.{readTable}
 use Rattle.origin.specs.Origin.{beginsHttps, httpsUrl, webOrigin, isFacet}
@@ -14,12 +13,9 @@ use Rattle.refusals.specs.declared.Refusal.the-variants.{Stranger, BadAppId, Fo
 use Rattle.trusted_list.specs.TrustedList.{listRefusal, entries}
 use Rattle.fetch_record.specs.Record.{Answer as Response}
 use Rattle.fetch_record.specs.Fetching.{Fetching, refused as hopRefused, fetch as mustFetch, answered, fetching}
-use Rattle.causes.specs.Causes.{kept}
+use Rattle.entries.specs.AppId.{isBadAppId}
+use Rattle.entries.specs.Causes.{kept}
 use Rattle.decision.specs.Answer.{Answer, rule1, rule2, rule3, rule4, fetch, refused}
-
--- refusal 2: over 2,048 bytes, or begins `https://` and is no HTTPS URL
-unfoldable pub isBadAppId : Bytes → Bool
-isBadAppId appid = ltb 2048 (length appid) || (beginsHttps appid && isNone (httpsUrl appid))
 
 -- ---- what caller, AppID, record and text settle
 

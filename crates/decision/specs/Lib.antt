@@ -1,6 +1,5 @@
 pub mod Answer
 pub mod Decide
 pub mod Location
-pub mod SameKept
 pub mod SameLabel
 pub mod code

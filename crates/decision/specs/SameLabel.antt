@@ -4,7 +4,7 @@ use mathlib.Core.Bool.{true}
 use mathlib.Core.Option.{some}
 use Rattle.ascii.specs.Ascii.{Bytes, sameNoCase}
 use Rattle.suffix.specs.Suffix.{privateLabel}
-use Rattle.causes.specs.Causes.{appLabel}
+use Rattle.entries.specs.AppId.{appLabel}
 
 -- both labels exist, and they are equal without regard to ASCII case
 pub record SameLabel (table appid host : Bytes) : Type 0 where

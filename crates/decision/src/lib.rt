@@ -1,18 +1,23 @@
 // The decision and the fetch location.
-use causes::AppOwner;
-use causes::Verdict;
+use entries::AppId;
+use entries::AppOwner;
+use entries::Entry;
+use entries::Owner;
 use fetch_record::Outcome;
 use fetch_record::Target;
+use json_text::Decoded;
 use json_text::Next;
 use refusals::Refusal;
 use trusted_list::Selection;
 ghost use mathlib.Core.Path.{_≡_};
-ghost use Rattle.decision.specs.Decide.{isBadAppId, byFetch, beforeList, firstMatch, byPlace, byList, decide, listDue};
-ghost use Rattle.decision.specs.Location.{fetchFrom, fetchLocation, sourceFrom, fetchSource};
-ghost use Rattle.decision.specs.code.Meaning.{answerOf, stageOf, IdsThere, entriesAt, matchOf, PartIs, StepIs, Owned, byEntries, Locates};
-ghost use Rattle.fetch_record.specs.code.Meaning.{outcomeOf, answerOf as responseOf};
+ghost use Rattle.entries.specs.Causes.{kept};
+ghost use Rattle.entries.specs.code.Owner.{HostEnds, Owned};
+ghost use Rattle.entries.specs.code.Reading.{IdsThere, entriesAt};
 ghost use Rattle.fetch_record.specs.Record.{lastHop};
-ghost use Rattle.causes.specs.Causes.{kept};
+ghost use Rattle.fetch_record.specs.code.Meaning.{answerOf as responseOf};
+ghost use Rattle.decision.specs.Decide.{firstMatch, byPlace, byList, decide, listDue};
+ghost use Rattle.decision.specs.Location.{fetchFrom, fetchLocation, sourceFrom, fetchSource};
+ghost use Rattle.decision.specs.code.Meaning.{answerOf, Before, matchOf, byEntries, Locates};
 
 pub enum Answer {
     Rule1,
@@ -23,61 +28,42 @@ pub enum Answer {
     Refused(Refusal),
 }
 
-// What caller, AppID, record and text settle; or the response that came, and the list is due.
+// What caller, AppID, record and text settle; or the response that came, and where the AppID's host ends: the list is due.
 pub enum Stage {
     Settled(Answer),
-    ListDue(fetch_record::item::Answer),
+    ListDue(fetch_record::item::Answer, usize),
 }
 
 // ---- before the list
 
-// Over 2,048 bytes, or begins `https://` and is no HTTPS URL.
-pub fn is_bad_appid(appid: &[u8]) -> bool
-    ensures { λ r. ⌜ r ≡ isBadAppId (now (appid .entry)) ⌝ }
-{
-    if 2048 < appid.len() {
-        return true;
-    }
-    if origin::begins_https(appid) {
-        return match origin::https_url(appid) {
-            origin::Reading::Found(_) => false,
-            origin::Reading::Malformed => true,
-        };
-    }
-    false
-}
-
-fn by_fetch(o: Outcome) -> Stage
-    ensures { λ r. ⌜ stageOf r ≡ byFetch (outcomeOf o) ⌝ }
-{
-    match o {
-        Outcome::Refused(x) => Stage::Settled(Answer::Refused(x)),
-        Outcome::Fetch => Stage::Settled(Answer::Fetch),
-        Outcome::Answered(a) => Stage::ListDue(a),
-    }
-}
-
 pub fn before_list(caller: &[u8], appid: &[u8], items: &[u8], text: &[u8]) -> Stage
-    ensures { λ r. ⌜ stageOf r ≡ beforeList (now (caller .entry)) (now (appid .entry)) (now (items .entry)) (now (text .entry)) ⌝ }
+    ensures { λ r. ⌜ Before (now (caller .entry)) (now (appid .entry)) (now (items .entry)) (now (text .entry)) r ⌝ }
 {
     if origin::is_facet(caller) {
-        if is_bad_appid(appid) {
-            return Stage::Settled(Answer::Refused(Refusal::BadAppId));
-        }
-        if appid.len() == 0 {
-            return Stage::Settled(Answer::Rule2);
-        }
-        if origin::begins_https(appid) {
-            if origin::same_host(caller, appid) {
-                return Stage::Settled(Answer::Rule3);
+        match entries::read_appid(appid) {
+            AppId::Bad => {
+                return Stage::Settled(Answer::Refused(Refusal::BadAppId));
             }
-            let o = fetch_record::fetching(items, text);
-            return by_fetch(o);
+            AppId::Foreign => {
+                if appid.len() == 0 {
+                    return Stage::Settled(Answer::Rule2);
+                }
+                if ascii::equal(appid, caller) {
+                    return Stage::Settled(Answer::Rule1);
+                }
+                return Stage::Settled(Answer::Refused(Refusal::ForeignAppId));
+            }
+            AppId::Url(end) => {
+                if origin::same_host(caller, appid) {
+                    return Stage::Settled(Answer::Rule3);
+                }
+                return match fetch_record::fetching(items, text) {
+                    Outcome::Refused(x) => Stage::Settled(Answer::Refused(x)),
+                    Outcome::Fetch => Stage::Settled(Answer::Fetch),
+                    Outcome::Answered(a) => Stage::ListDue(a, end),
+                };
+            }
         }
-        if ascii::equal(appid, caller) {
-            return Stage::Settled(Answer::Rule1);
-        }
-        return Stage::Settled(Answer::Refused(Refusal::ForeignAppId));
     }
     Stage::Settled(Answer::Refused(Refusal::Stranger))
 }
@@ -90,118 +76,39 @@ pub enum Match {
     Nowhere,
 }
 
-// An entry is kept and matches; or it ends at a place, and adds 1 to the kept ones, or 0; or it is no string.
-pub enum Step {
-    Matched,
-    Goes(usize, usize),
-    Wrong,
-}
-
-// One entry that ends before a place.
-fn match_part(
-    caller: &[u8],
-    label: &[u8],
-    deeper: bool,
-    entry: &[u8],
-    end: usize,
-    table: &[u8],
-) -> Step
-    ensures { λ r. ⌜ PartIs (now (caller .entry)) (now (table .entry)) (now (label .entry)) deeper (now (entry .entry)) end r ⌝ }
-{
-    match causes::judge(entry, label, deeper, table) {
-        Verdict::Kept => {
-            if origin::matches(caller, entry) {
-                return Step::Matched;
-            }
-            Step::Goes(end, 1)
-        }
-        Verdict::TooLong => Step::Goes(end, 0),
-        Verdict::OtherScheme => Step::Goes(end, 0),
-        Verdict::NotFacet => Step::Goes(end, 0),
-        Verdict::OtherLabel => Step::Goes(end, 0),
-    }
-}
-
-// An entry that may have escapes, decoded first.
-fn match_escaped(
-    caller: &[u8],
-    label: &[u8],
-    deeper: bool,
-    body: &[u8],
-    at: usize,
-    table: &[u8],
-) -> Step
-    ensures { λ r. ⌜ StepIs (now (caller .entry)) (now (table .entry)) (now (label .entry)) deeper (now (body .entry)) at r ⌝ }
-{
-    let t = json_text::decoding::decode_string(body, at);
-    let e = t.end;
-    let Next::At(j) = e else {
-        return Step::Wrong;
-    };
-    let d = t.decoded;
-    if d.long {
-        return Step::Goes(j, 0);
-    }
-    let n = d.len;
-    if 512 < n {
-        return Step::Goes(j, 0);
-    }
-    let bytes = d.bytes;
-    match_part(caller, label, deeper, &bytes[0..n], j, table)
-}
-
-// An entry without escapes is judged where it stands.
-fn match_entry(
-    caller: &[u8],
-    label: &[u8],
-    deeper: bool,
-    body: &[u8],
-    at: usize,
-    table: &[u8],
-) -> Step
-    ensures { λ r. ⌜ StepIs (now (caller .entry)) (now (table .entry)) (now (label .entry)) deeper (now (body .entry)) at r ⌝ }
-{
-    let Next::At(q) = json_text::strings::plain_end(body, at) else {
-        return match_escaped(caller, label, deeper, body, at, table);
-    };
-    let from = at + 1;
-    match_part(caller, label, deeper, &body[from..q], q + 1, table)
-}
-
-// The entries of the ids at a place, one by one; the AppID's label stands in it from start to end.
+// The entries of the ids at a place, one by one, for the AppID with this owner.
 fn first_match(
     caller: &[u8],
     appid: &[u8],
-    start: usize,
-    end: usize,
-    deeper: bool,
+    owner: Owner,
     body: &[u8],
     ids: usize,
     table: &[u8],
 ) -> Match
-    requires { ⌜ Owned (now appid) (now table) start end deeper × IdsThere (now body) ids ⌝ }
+    requires { ⌜ Owned (now appid) (now table) owner × IdsThere (now body) ids ⌝ }
     ensures { λ r. ⌜ matchOf r ≡ firstMatch (now (caller .entry)) (kept (now (appid .entry)) (now (table .entry)) (entriesAt (now (body .entry)) ids)) ⌝ }
 {
-    let Next::At(first) = trusted_list::first_entry(body, ids) else {
-        return Match::Nowhere;
+    let mut d = Decoded {
+        bytes: [0u8; 512],
+        len: 0,
     };
-    let mut at = first;
+    let mut at = trusted_list::first_entry(body, ids);
     let mut n = 0;
     loop {
-        let step = match_entry(caller, &appid[start..end], deeper, body, at, table);
-        match step {
-            Step::Matched => {
-                return Match::At(n);
+        let Next::At(i) = at else {
+            return Match::Nowhere;
+        };
+        match entries::read_entry(&mut d.bytes, body, i, appid, owner, table) {
+            Entry::Kept(len, next) => {
+                d.len = len;
+                if origin::matches(caller, ascii::prefix(&d.bytes, d.len)) {
+                    return Match::At(n);
+                }
+                n += 1;
+                at = next;
             }
-            Step::Wrong => {
-                return Match::Nowhere;
-            }
-            Step::Goes(j, k) => {
-                n += k;
-                let Next::At(i) = trusted_list::next_entry(body, j) else {
-                    return Match::Nowhere;
-                };
-                at = i;
+            Entry::Discarded(_, after) => {
+                at = after;
             }
         }
     }
@@ -216,15 +123,15 @@ fn by_match(m: Match) -> Answer
     }
 }
 
-// Refusal 13, rule 4 or refusal 14, for the ids at a place.
-fn by_ids(caller: &[u8], appid: &[u8], body: &[u8], ids: usize, table: &[u8]) -> Answer
-    requires { ⌜ IdsThere (now body) ids ⌝ }
+// Refusal 13, rule 4 or refusal 14, for the ids at a place and the AppID whose host ends at a place.
+fn by_ids(caller: &[u8], appid: &[u8], end: usize, body: &[u8], ids: usize, table: &[u8]) -> Answer
+    requires { ⌜ HostEnds (now appid) end × IdsThere (now body) ids ⌝ }
     ensures { λ r. ⌜ answerOf r ≡ byEntries (now (caller .entry)) (now (appid .entry)) (now (table .entry)) (entriesAt (now (body .entry)) ids) ⌝ }
 {
-    match causes::find_owner(appid, table) {
+    match entries::find_owner(appid, end, table) {
         AppOwner::BadTable => Answer::Refused(Refusal::BadTable),
-        AppOwner::Label(start, end, deeper) => {
-            let m = first_match(caller, appid, start, end, deeper, body, ids, table);
+        AppOwner::Is(owner) => {
+            let m = first_match(caller, appid, owner, body, ids, table);
             by_match(m)
         }
     }
@@ -234,12 +141,14 @@ fn by_ids(caller: &[u8], appid: &[u8], body: &[u8], ids: usize, table: &[u8]) ->
 fn by_list(
     caller: &[u8],
     appid: &[u8],
+    end: usize,
     major: u16,
     minor: u16,
     response: fetch_record::item::Answer,
     body: &[u8],
     table: &[u8],
 ) -> Answer
+    requires { ⌜ HostEnds (now appid) end ⌝ }
     ensures { λ r. ⌜ answerOf r ≡ byList (now (caller .entry)) (now (appid .entry)) major minor (now (body .entry)) (now (table .entry)) (listDue (responseOf response)) ⌝ }
 {
     if response.status != 200 {
@@ -248,7 +157,7 @@ fn by_list(
     if response.type_seen {
         return match trusted_list::select(body, major, minor) {
             Selection::Refused(x) => Answer::Refused(x),
-            Selection::Ids(ids) => by_ids(caller, appid, body, ids, table),
+            Selection::Ids(ids) => by_ids(caller, appid, end, body, ids, table),
         };
     }
     Answer::Refused(Refusal::WrongType)
@@ -270,7 +179,9 @@ pub fn decide(
 {
     match before_list(caller, appid, items, text) {
         Stage::Settled(a) => a,
-        Stage::ListDue(response) => by_list(caller, appid, major, minor, response, body, table),
+        Stage::ListDue(response, end) => {
+            by_list(caller, appid, end, major, minor, response, body, table)
+        }
     }
 }
 
@@ -297,7 +208,7 @@ pub fn locate(caller: &[u8], appid: &[u8], items: &[u8], text: &[u8]) -> Locatio
     ensures { λ r. ⌜ Locates (now (appid .entry)) (now (text .entry)) (fetchLocation (now (caller .entry)) (now (appid .entry)) (now (items .entry)) (now (text .entry))) (fetchSource (now (caller .entry)) (now (appid .entry)) (now (items .entry)) (now (text .entry))) r ⌝ }
 {
     match before_list(caller, appid, items, text) {
-        Stage::ListDue(_) => Location::Nothing,
+        Stage::ListDue(_, _) => Location::Nothing,
         Stage::Settled(a) => match a {
             Answer::Fetch => last_target(items, text, appid),
             Answer::Rule1 => Location::Nothing,

@@ -1,5 +1,6 @@
--- The exported decision: its number, its place, and demand 3. Assumes nothing.
-use mathlib.Core.Path.{_≡_, sym, ap, _∙_}
+-- The exported decision: its number, its place, the label that rule 4 asks for, and demand 3. Assumes nothing.
+use mathlib.Core.Path.{_≡_, refl, sym, ap, _∙_}
+use mathlib.Core.Option.{some}
 use Prim.Native.Nat.{ℕ, _+_, _≤_, _<_}
 use native.Mathlib.Omega.{arith}
 use mir.Syntax.{w16, w32}
@@ -8,14 +9,17 @@ use Rattle.ascii.specs.Ascii.{Bytes}
 use Rattle.refusals.specs.declared.Refusal.{Refusal}
 use Rattle.refusals.specs.declared.Refusal.the-variants.{Stranger, BadAppId, ForeignAppId, BadRecord, OpenRedirect, BadLocation, NotFetched, WrongType, LongList, Unreadable, Misshapen, NoVersion, BadTable, NotListed, Full}
 use Rattle.refusals.specs.Number.{refusalNumber}
-use Rattle.decision.specs.Answer.{rule4, answerNumber}
+use Rattle.origin.specs.Origin.{Authority, webOrigin}
+use Rattle.decision.specs.Answer.{Answer as Given, rule1, rule2, rule3, rule4, fetch, refused, answerNumber}
 use Rattle.decision.specs.Decide.{decide}
+use Rattle.decision.specs.SameLabel.{SameLabel}
 use Rattle.decision.specs.code.Meaning.{answerOf}
 use Rattle.decision.specs.declared.Answer.{Answer}
 use Rattle.decision.specs.declared.Answer.the-variants.{Rule1, Rule2, Rule3, Rule4, Fetch, Refused}
 use Rattle.decision.proofs.Padding.{padding-decision}
 use Rattle.decision.proofs.PlaceSmall.{place-small}
-use Rattle.facets.specs.Promises.{placeAfter, SmallPlace, SameNumber, SamePlace}
+use Rattle.decision.proofs.Rule4.{rule4-label}
+use Rattle.facets.specs.Promises.{placeAfter, SmallPlace, SameNumber, SamePlace, UnderLabel}
 
 -- ---- the number
 
@@ -107,6 +111,18 @@ module _ (caller appid : Bytes) (major minor : ℕ) (items lent body table : Byt
   module _ {r : ℕ} (f : r ≡ answerNumber (answerOf a)) where
     pub decided-number : r ≡ answerNumber (decide caller appid major minor items lent body table)
     decided-number = f ∙ ap answerNumber e
+
+    four-label : (origin : Authority) → webOrigin caller ≡ some origin → (d : Given) → decide caller appid major minor items lent body table ≡ d → answerNumber d ≡ 4
+        → SameLabel table appid (origin .host)
+    four-label origin web rule1 g h = absurd (omega (arith, h))
+    four-label origin web rule2 g h = absurd (omega (arith, h))
+    four-label origin web rule3 g h = absurd (omega (arith, h))
+    four-label origin web (rule4 n) g h = rule4-label caller appid table origin web major minor items lent body n g
+    four-label origin web fetch g h = absurd (omega (arith, h))
+    four-label origin web (refused x) g h = absurd (omega (arith, h))
+
+    pub under-label : UnderLabel r caller appid table
+    under-label = record { is = λ origin web h. four-label origin web (decide caller appid major minor items lent body table) refl (sym decided-number ∙ h) }
 
     pub same-number : SameNumber r caller appid major minor items lent body table
     same-number = record { is = λ other S. decided-number ∙ ap answerNumber (padding-decision appid table major minor body other S caller items lent) }

@@ -13,15 +13,17 @@ use lib.Dec.{ltb}
 use borrow.Author.Tests.{ltb-false}
 use Rattle.ascii.specs.Ascii.{Bytes, if_then_else_, _>>=_, isNone, lastOf}
 use Rattle.origin.specs.Origin.{beginsHttps, httpsUrl, isFacet}
+use Rattle.origin.specs.code.Parts.{part}
 use Rattle.refusals.specs.declared.Refusal.the-variants.{Stranger, BadAppId}
 use Rattle.fetch_record.specs.Record.{Redirect, Fetched, location, lastLocation, lastRedirect, readRecord, lastHop}
+use Rattle.entries.specs.AppId.{isBadAppId}
 use Rattle.decision.specs.Answer.{rule1, rule2, rule3, rule4, fetch, refused}
-use Rattle.decision.specs.Decide.{Stage, settled, listDue, isBadAppId, beforeList}
+use Rattle.decision.specs.Decide.{Stage, settled, listDue, beforeList}
 use Rattle.decision.specs.Location.{fetchFrom, ifFetch, fetchLocation, Source, nowhere, theAppId, redirect, sourceFrom, sourceIfFetch, fetchSource}
-use Rattle.decision.specs.code.Meaning.{Stands, at-nowhere, at-app, at-hop, Locates}
+use Rattle.decision.specs.code.Meaning.{Stands, at-nowhere, at-app, at-hop, Inside, text-place, locationOf, Locates}
 use Rattle.decision.specs.declared.Location.{Location}
 use Rattle.decision.specs.declared.Location.the-variants.{Nothing, AppId, Text}
-use Rattle.facets.specs.Located.{sourceNumber, sourceStart, sourceLength, named}
+use Rattle.facets.specs.Located.{sourceNumber, sourceStart, sourceLength, namedSlice, named}
 
 -- ---- a bad AppID is fetched from nowhere: so the length of one that is fetched fits
 
@@ -63,6 +65,9 @@ record HopAt (s : Source) (a b : ℕ) : Type 0 where
 stands-hop : {s : Source} {a b : ℕ} → Stands s (Text a b) → HopAt s a b
 stands-hop (at-hop {h} e f l k) = record { hop = h; is = refl; from = e; to = f; low = l; high = k }
 
+inside-text : {lent : Bytes} {a b : ℕ} → Inside lent (Text a b) → b ≤ length lent
+inside-text (text-place l m) = m
+
 module _ {appid lent p : Bytes} {s : Source} {r : Location} (L : Locates appid lent p s r) where
   module _ (h : r ≡ Nothing) where
     none-is : s ≡ nowhere
@@ -77,6 +82,13 @@ module _ {appid lent p : Bytes} {s : Source} {r : Location} (L : Locates appid l
     pub none-length : 0 ≡ sourceLength appid s
     none-length = rw none-is
 
+    pub none-inside : 0 + 0 ≤ length (namedSlice appid lent 0)
+    none-inside = omega arith
+
+    pub none-part : named appid lent 0 0 0 ≡ p
+    unfolding named namedSlice locationOf
+    none-part = rw h at (L .is)
+
   module _ (h : r ≡ AppId) where
     app-is : s ≡ theAppId
     app-is = stands-app (rw h at (L .stands))
@@ -89,6 +101,14 @@ module _ {appid lent p : Bytes} {s : Source} {r : Location} (L : Locates appid l
 
     pub app-length : length appid ≡ sourceLength appid s
     app-length = rw app-is
+
+    pub app-inside : 0 + length appid ≤ length (namedSlice appid lent 1)
+    unfolding namedSlice
+    app-inside = omega arith
+
+    pub app-part : named appid lent 1 0 (length appid) ≡ p
+    unfolding named namedSlice locationOf
+    app-part = take-length appid ∙ (rw h at (L .is))
 
   module _ {a b : ℕ} (h : r ≡ Text a b) where
     H : HopAt s a b
@@ -112,6 +132,14 @@ module _ {appid lent p : Bytes} {s : Source} {r : Location} (L : Locates appid l
     pub text-length : b - a ≡ sourceLength appid s
     text-length = rw (H .is) (omega (arith, H .from, H .to))
 
+    pub text-inside : a + (b - a) ≤ length (namedSlice appid lent 2)
+    unfolding namedSlice
+    text-inside = let e = inside-text (rw h at (L .inside)) in omega (arith, e, text-order)
+
+    pub text-part : named appid lent 2 a (b - a) ≡ p
+    unfolding named namedSlice locationOf part
+    text-part = rw h at (L .is)
+
 pub app-fits : (caller appid items lent : Bytes) {p : Bytes} {r : Location} → Locates appid lent p (fetchSource caller appid items lent) r → r ≡ AppId → Fits w32 (length appid)
 app-fits caller appid items lent L h = record { fits = omega (arith, app-short caller appid items lent (app-is L h)) }
 
@@ -121,12 +149,12 @@ module _ (appid lent : Bytes) where
   abbrev part-of : Source → Bytes
   part-of s = named appid lent (sourceNumber s) (sourceStart s) (sourceLength appid s)
 
-  app-part : part-of theAppId ≡ appid
-  unfolding named
-  app-part = take-length appid
+  whole-part : part-of theAppId ≡ appid
+  unfolding named namedSlice
+  whole-part = take-length appid
 
   hop-part : (l : List Redirect) → part-of (sourceFrom (head? l)) ≡ Option·getD (head? (map (location lent) l)) appid
-  unfolding sourceFrom location named
+  unfolding sourceFrom location named namedSlice
   hop-part [] = take-length appid
   hop-part (h ∷ l) = refl
 
@@ -135,14 +163,14 @@ module _ (appid lent : Bytes) where
   from-part items = go (readRecord items lent)
     where
       go : (o : Option Fetched) → part-of (sourceFrom (o >>= λ f. lastRedirect (f .redirects))) ≡ Option·getD (o >>= λ f. lastLocation lent (f .redirects)) appid
-      go none = unfold sourceFrom in app-part
+      go none = unfold sourceFrom in whole-part
       go (some f) = unfold lastRedirect lastLocation in (hop-part (lastOf 1 (f .redirects)))
 
 -- the part of the AppID or of the text that they name is document 01's fetch location
 pub located-part : (caller appid items lent : Bytes)
     → named appid lent (sourceNumber (fetchSource caller appid items lent)) (sourceStart (fetchSource caller appid items lent)) (sourceLength appid (fetchSource caller appid items lent))
     ≡ fetchLocation caller appid items lent
-unfolding fetchSource fetchLocation sourceIfFetch ifFetch named
+unfolding fetchSource fetchLocation sourceIfFetch ifFetch named namedSlice
 located-part caller appid items lent = go (beforeList caller appid items lent)
   where
     go : (s : Stage) → part-of appid lent (sourceIfFetch s (sourceFrom (lastHop items lent))) ≡ ifFetch s (fetchFrom appid items lent)

@@ -3,7 +3,7 @@ use mathlib.Core.Path.{_≡_}
 use Prim.Native.Nat.{ℕ}
 use Rattle.ascii.specs.Ascii.{Bytes}
 use Rattle.refusals.specs.Number.{refusalNumber}
-use Rattle.decision.specs.SameKept.{SameKept}
+use Rattle.entries.specs.SameKept.{SameKept}
 use Rattle.cleaning.specs.Clean.{Cleaned, notCleaned, cleaned, clean, cleanedLength, outputAfter}
 
 -- the refusal that is reported, 0 where the list is written

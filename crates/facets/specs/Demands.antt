@@ -1,15 +1,19 @@
 -- Demands 2 and 3 as claims about document 01's definitions, each said once. A reviewer can open this file first; proofs/Demands.antt
 -- proves every claim. The exports (src/lib.rt) promise that they answer as these definitions.
 use mathlib.Core.Path.{_≡_}
+use mathlib.Core.List.{List, [], _∷_}
 use mathlib.Core.Option.{some}
 use Prim.Native.Nat.{ℕ}
 use lib.ListN.{length}
 use Rattle.ascii.specs.Ascii.{Bytes}
 use Rattle.origin.specs.Origin.{Authority, webOrigin}
-use Rattle.trusted_list.specs.TrustedList.{entries}
-use Rattle.decision.specs.Answer.{rule4}
+use Rattle.trusted_list.specs.TrustedList.{entries, Accepted}
+use Rattle.entries.specs.Causes.{cause}
+use Rattle.entries.specs.SameKept.{SameKept}
+use Rattle.entries.specs.declared.Cause.{Cause}
+use Rattle.decision.specs.Answer.{rule4, fetch}
 use Rattle.decision.specs.Decide.{decide}
-use Rattle.decision.specs.SameKept.{SameKept}
+use Rattle.decision.specs.Location.{fetchFrom, fetchLocation}
 use Rattle.decision.specs.SameLabel.{SameLabel}
 use Rattle.cleaning.specs.Clean.{cleaned, clean, cleanedLength, outputAfter}
 use Rattle.tally.specs.Tally.{Counts, total, tallied, tally}
@@ -32,11 +36,36 @@ pub record SameAnswers (appid table : Bytes) (major minor : ℕ) (body₁ body�
 abbrev pub Padding : Type 0
 Padding = (appid table : Bytes) (major minor : ℕ) (body₁ body₂ : Bytes) → SameKept appid table major minor body₁ body₂ → SameAnswers appid table major minor body₁ body₂
 
+-- fs is es with discarded entries, those with a cause, inserted anywhere and in any number
+pub data Inserted (appid table : Bytes) : List Bytes → List Bytes → Type 0 where
+  neither : Inserted appid table [] []
+  both : {e : Bytes} {es fs : List Bytes} → Inserted appid table es fs → Inserted appid table (e ∷ es) (e ∷ fs)
+  inserted : {c : Cause} {e : Bytes} {es fs : List Bytes} → cause appid table e ≡ some c → Inserted appid table es fs → Inserted appid table es (e ∷ fs)
+
+-- bodies that differ meet that premise: two accepted bodies, where the second selects the first's entries with discarded ones inserted
+abbrev pub Insertions : Type 0
+Insertions =
+    (appid table : Bytes) (major minor : ℕ) (body₁ body₂ : Bytes) → Accepted major minor body₁ → Accepted major minor body₂
+    → Inserted appid table (entries major minor body₁) (entries major minor body₂) → SameKept appid table major minor body₁ body₂
+
 -- whatever the inputs: no web caller is allowed by rule 4 unless its host's private label exists and is the AppID's
 abbrev pub Owners : Type 0
 Owners =
     (caller appid : Bytes) (major minor : ℕ) (items lent body table : Bytes) (origin : Authority) (place : ℕ)
     → webOrigin caller ≡ some origin → decide caller appid major minor items lent body table ≡ rule4 place → SameLabel table appid (origin .host)
+
+-- ---- demand 2: the fetch location
+
+-- beside the decision with the same caller, AppID, record and text
+pub record LocatedBy (caller appid : Bytes) (major minor : ℕ) (items lent body table : Bytes) : Type 0 where
+  -- where it is fetch: the last redirect's part of the text, or the AppID where there is none
+  pub by-fetch : decide caller appid major minor items lent body table ≡ fetch → fetchLocation caller appid items lent ≡ fetchFrom appid items lent
+  -- where it is not: an empty part
+  pub by-other : (decide caller appid major minor items lent body table ≡ fetch → ⊥) → fetchLocation caller appid items lent ≡ []
+
+-- whatever the version, the body and the table
+abbrev pub Locating : Type 0
+Locating = (caller appid : Bytes) (major minor : ℕ) (items lent body table : Bytes) → LocatedBy caller appid major minor items lent body table
 
 -- ---- demand 2: the cleaned list
 

@@ -22,9 +22,14 @@ sourceLength appid nowhere = 0
 sourceLength appid theAppId = length appid
 sourceLength appid (redirect h) = h .size
 
--- the part that three numbers name
-unfoldable pub named : Bytes → Bytes → ℕ → ℕ → ℕ → Bytes
-named appid lent source start len =
-    if eqb source 1 then take len (drop start appid) else
-    if eqb source 2 then take len (drop start lent) else
+-- the lent slice that the first number names
+unfoldable pub namedSlice : Bytes → Bytes → ℕ → Bytes
+namedSlice appid lent source =
+    if eqb source 1 then appid else
+    if eqb source 2 then lent else
     []
+
+-- the part that three numbers name; it is to be "the last redirect's part of the text, or the AppID where there is none, and an empty part
+-- unless the decision is fetch"
+unfoldable pub named : Bytes → Bytes → ℕ → ℕ → ℕ → Bytes
+named appid lent source start len = take len (drop start (namedSlice appid lent source))

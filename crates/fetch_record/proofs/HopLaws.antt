@@ -107,22 +107,6 @@ hops-append lent (h ∷ hs) gs = go (not (h .authorized)) (isNone (httpsUrl (loc
     go false true ih = refl
     go false false ih = ih
 
--- a hop is refused by 5 or 6
-pub data HopRefusal : Refusal → Type 0 where
-  by-five : HopRefusal OpenRedirect
-  by-six : HopRefusal BadLocation
-
-pub hop-refusals : (lent : Bytes) (hs : List Redirect) (r : Refusal) → hopRefusal lent hs ≡ some r → HopRefusal r
-unfolding hopRefusal
-hop-refusals lent [] r e = let z : _≡_ {A = ℕ} 0 1 = cc in absurd (omega arith)
-hop-refusals lent (h ∷ hs) r e = go (not (h .authorized)) (isNone (httpsUrl (location lent h))) (hop-refusals lent hs r) e
-  where
-    go : (u v : Bool) → (hopRefusal lent hs ≡ some r → HopRefusal r)
-        → (if u then some OpenRedirect else if v then some BadLocation else hopRefusal lent hs) ≡ some r → HopRefusal r
-    go true v ih e = let z : OpenRedirect ≡ r = cc in rw (← z) by-five
-    go false true ih e = let z : BadLocation ≡ r = cc in rw (← z) by-six
-    go false false ih e = ih e
-
 refused-stays : (items lent : Bytes) (r : Refusal) (n k : ℕ) → k ≤ n → hopRefusal lent (redirectsIn k items) ≡ some r → hopRefusal lent (redirectsIn n items) ≡ some r
 unfolding redirectsIn
 refused-stays items lent r zero k h e = let z : k ≡ 0 = omega arith in rw z at e

@@ -55,7 +55,8 @@ pub(crate) fn redirect_in(s: &[u8]) -> Redirect
     }
 }
 
-// The body of kind 1, 7 bytes.
+// The body of kind 1, 7 bytes: status (2 bytes, from 300 to 399), authorized header seen (1, value 0 or 1), start and length
+// of its Location (2 each).
 pub fn read_redirect(s: &[u8]) -> RedirectBody
     ensures { λ r. ⌜ redirectRead r ≡ readRedirect (now (s .entry)) ⌝ }
 {
@@ -76,7 +77,7 @@ pub fn read_redirect(s: &[u8]) -> RedirectBody
     RedirectBody::Redirect(redirect_in(s))
 }
 
-// The body of kind 2, 3 bytes.
+// The body of kind 2, 3 bytes: status (2), right content type seen (1, value 0 or 1).
 pub fn read_answer(s: &[u8]) -> AnswerBody
     ensures { λ r. ⌜ answerRead r ≡ readAnswer (now (s .entry)) ⌝ }
 {

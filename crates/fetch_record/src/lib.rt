@@ -54,7 +54,7 @@ pub enum Target {
     Part(usize, usize),
 }
 
-// At most one answer, then the end.
+// At most one answer, then the end: an answer is its kind, 2, and a body of 3 bytes.
 fn read_end(s: &[u8]) -> End
     ensures { λ r. ⌜ endRead r ≡ readEnd (now (s .entry)) ⌝ }
 {
@@ -73,7 +73,8 @@ fn read_end(s: &[u8]) -> End
     }
 }
 
-// The redirects at the front, each well formed and with its Location inside the text.
+// The redirects at the front, at most 8, each well formed and with its Location inside the text. A redirect is its kind,
+// 1, and a body of 7 bytes: the n-th, from 0, stands at 8 * n.
 fn count_redirects(items: &[u8], text: &[u8]) -> Front
     ensures { λ r. ⌜ Counts (now (items .entry)) (now (text .entry)) r ⌝ }
 {

@@ -1,12 +1,11 @@
 -- The loop over the items of an array or an object.
 use mathlib.Core.Path.{_≡_, sym, _∙_}
-use mathlib.Core.Bool.{_&&_, _||_}
-use mathlib.Core.List.{List, [], _∷_, _++_}
-use Prim.Native.Nat.{ℕ, suc, _+_, _-_, _*_, _≤_, _<_}
+use mathlib.Core.List.{List, [], _∷_}
+use Prim.Native.Nat.{ℕ, suc, _+_, _-_, _≤_, _<_}
 use native.Mathlib.Omega.{arith}
 use lib.ListN.{length, drop, length-drop}
 use Rattle.ascii.specs.Ascii.{Bytes}
-use Rattle.json_text.specs.Reader.{got, Reader, give, oneOf, _>>=_, _>>_, ifNext_then_else_}
+use Rattle.json_text.specs.Reader.{got, Reader, give, oneOf, _>>_, ifNext_then_else_}
 use Rattle.json_text.specs.Lexical.{ws}
 use Rattle.json.specs.Json.{items, listed}
 use Rattle.json_text.specs.code.Places.{Peeked, readAt, placeOf}

@@ -1,7 +1,7 @@
 -- Testing UTF-8 inside strings is the same as testing the whole text first.
 use mathlib.Core.Path.{_≡_, refl, sym, ap, _∙_}
-use mathlib.Core.List.{[], _∷_, _++_, append-assoc}
-use mathlib.Core.Bool.{Bool, true, false, _&&_, _||_}
+use mathlib.Core.List.{[], _∷_, _++_}
+use mathlib.Core.Bool.{Bool, true, false}
 use mathlib.Core.Option.{Option, none, some}
 use Prim.Native.Nat.{ℕ, zero, suc, _+_, _-_, _≤_, _<_}
 use native.Mathlib.Omega.{arith}
@@ -166,11 +166,6 @@ more-more : {A : Type 0} (i n : ℕ) (r : Read A) → more i (more n r) ≡ more
 unfolding more
 more-more i n (got a m) = ap (got a) (omega arith)
 more-more i n bad = refl
-
-mapped-mapped : (x y : Bytes) (r : Read Bytes) → mapped (λ cs. x ++ cs) (mapped (λ cs. y ++ cs) r) ≡ mapped (λ cs. (x ++ y) ++ cs) r
-unfolding mapped
-mapped-mapped x y (got a m) = ap (λ c. got c m) (sym (append-assoc x y a))
-mapped-mapped x y bad = refl
 
 give-last : {A B : Type 0} (f : A → B) (l : Bytes) (r : Read A) → behind r l (λ a. give (f a)) ≡ mapped f r
 unfolding behind give mapped more

@@ -1,4 +1,5 @@
 // Texts built in a buffer of 1,024 bytes. What does not fit is left out.
+use json_text::Progress;
 
 // One byte at a place; the place behind it.
 pub fn put(buf: &mut [u8], at: usize, b: u8) -> usize {
@@ -33,15 +34,15 @@ pub fn put_times(buf: &mut [u8], at: usize, bytes: &[u8], n: usize) -> usize {
 // A hexadecimal digit; letters in lower case, or in upper.
 fn digit(n: u8, upper: bool) -> u8 {
     if n < 10 {
-        return 48 + n;
+        return b'0' + n;
     }
     if n < 16 {
         if upper {
-            return 55 + n;
+            return b'A' + (n - 10);
         }
-        return 87 + n;
+        return b'a' + (n - 10);
     }
-    63
+    b'?'
 }
 
 // `\u` and the four digits of n.
@@ -71,10 +72,17 @@ pub fn decodes_to(buf: &[u8], n: usize, content: &[u8], m: usize) -> bool {
     if !json::is_readable(&buf[0..n]) {
         return false;
     }
-    let t = json_text::decoding::decode_string(&buf[0..n], 0);
-    let d = t.decoded;
+    let mut space = [0u8; 512];
+    let Progress::On(d, _) = json_text::decoding::decode_string(&mut space, &buf[0..n], 0) else {
+        return false;
+    };
     if m > 512 {
-        return d.long;
+        return 512 < d;
     }
-    json_text::decoding::is_text(d, &content[0..m])
+    holds(&space, d, &content[0..m])
+}
+
+// The first n bytes are these.
+fn holds(bytes: &[u8; 512], n: usize, content: &[u8]) -> bool {
+    ascii::equal(ascii::prefix(bytes, n), content)
 }

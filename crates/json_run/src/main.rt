@@ -1,17 +1,17 @@
 // Reads texts from standard input, each behind its length in two bytes, big-endian, of at most 4,096, and writes a line for each:
 // `unreadable`, `readable`, or, where the text is one string, `string` and its decoded bytes in hexadecimal, or `string long`.
-use json_text::Decoded;
+use json_text::Progress;
 use libc::STDIN_FILENO;
 use libc::STDOUT_FILENO;
 
 fn digit(n: u8) -> u8 {
     if n < 10 {
-        return 48 + n;
+        return b'0' + n;
     }
     if n < 16 {
-        return 87 + n;
+        return b'a' + (n - 10);
     }
-    63
+    b'?'
 }
 
 fn put(line: &mut [u8], at: usize, b: u8) -> usize {
@@ -51,13 +51,11 @@ fn put_hex(line: &mut [u8], at: usize, bytes: &[u8; 512], n: usize) -> usize {
     to
 }
 
-fn put_decoded(line: &mut [u8], at: usize, d: Decoded) -> usize {
-    if d.long {
+fn put_decoded(line: &mut [u8], at: usize, bytes: &[u8; 512], n: usize) -> usize {
+    if 512 < n {
         return put_all(line, at, b"long");
     }
-    let bytes = d.bytes;
-    let n = d.len;
-    put_hex(line, at, &bytes, n)
+    put_hex(line, at, bytes, n)
 }
 
 fn write_line(line: &[u8], n: usize) -> bool {
@@ -73,16 +71,18 @@ fn answer(s: &[u8]) -> bool {
         return io::write_all(STDOUT_FILENO, b"unreadable\n");
     }
     let i = json_text::skip_blanks(s, 0);
-    if json_text::byte_at(s, i) != 34 {
+    if json_text::byte_at(s, i) != json_text::QUOTATION_MARK {
         return io::write_all(STDOUT_FILENO, b"readable\n");
     }
-    let t = json_text::decoding::decode_string(s, i);
-    let d = t.decoded;
+    let mut bytes = [0u8; 512];
+    let Progress::On(n, _) = json_text::decoding::decode_string(&mut bytes, s, i) else {
+        return false;
+    };
     let mut space = [0u8; 1040];
     let line: &mut [u8] = &mut space;
     let a = put_all(line, 0, b"string ");
-    let b = put_decoded(line, a, d);
-    let c = put(line, b, 10);
+    let b = put_decoded(line, a, &bytes, n);
+    let c = put(line, b, b'\n');
     write_line(line, c)
 }
 

@@ -1,7 +1,7 @@
 -- The ways through an escape.
-use mathlib.Core.Path.{_≡_, refl, _∙_}
-use mathlib.Core.Bool.{Bool, true, false, _&&_, _||_}
-use mathlib.Core.List.{[], _∷_, _++_}
+use mathlib.Core.Path.{_≡_, refl}
+use mathlib.Core.Bool.{Bool, true, false, _&&_}
+use mathlib.Core.List.{[], _∷_}
 use Prim.Native.Nat.{ℕ, _+_, _-_, _*_, _≤_, _<_}
 use native.Mathlib.Omega.{arith}
 use mir.Syntax.{w64}
@@ -10,7 +10,7 @@ use Prim.Native.Nat.{_^_}
 use lib.Dec.{leb}
 use lib.ListN.{length}
 use borrow.Author.Tests.{lt-ltb, le-ltb, leb-true, leb-false}
-use Rattle.ascii.specs.Ascii.{Bytes, if_then_else_, between}
+use Rattle.ascii.specs.Ascii.{Bytes, between}
 use Rattle.json_text.specs.Reader.{got, bad, more, behind, _>>=_, satisfy, word, give, lead_to_then_else_}
 use Rattle.json_text.specs.Lexical.{hexValue, hexDigit, hex4, lowAfter, codePoint, escaped}
 use Rattle.json_text.specs.code.Places.{Peeked, readAt, placeOf, pointOf}

@@ -3,7 +3,6 @@ pub mod Scan
 pub mod Words
 pub mod Bytes
 pub mod NumberSteps
-pub mod Decimals
 pub mod Plain
 pub mod EscapeSteps
 pub mod Chars

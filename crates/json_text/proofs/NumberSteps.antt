@@ -1,7 +1,7 @@
 -- The ways through a number.
 use mathlib.Core.Path.{_≡_, sym, _∙_}
-use mathlib.Core.Bool.{true, false, _&&_, _||_}
-use mathlib.Core.List.{[], _∷_, _++_}
+use mathlib.Core.Bool.{true, false}
+use mathlib.Core.List.{[], _∷_}
 use Prim.Native.Nat.{ℕ, _+_, _-_, _≤_, _<_}
 use types.Run.{OneOf}
 use lib.Dec.{leb}

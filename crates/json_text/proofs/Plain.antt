@@ -1,11 +1,9 @@
 -- The ways through a character of a string that is not escaped.
 use mathlib.Core.Path.{_≡_, ap, sym, _∙_}
-use mathlib.Core.Bool.{_&&_, _||_}
-use mathlib.Core.List.{_∷_, _++_}
-use Prim.Native.Nat.{ℕ, _+_, _-_, _*_, _≤_, _<_}
+use Prim.Native.Nat.{ℕ, _+_, _-_, _≤_, _<_}
 use native.Mathlib.Omega.{arith}
 use Rattle.ascii.specs.Ascii.{Bytes}
-use Rattle.json_text.specs.Reader.{bad, Reader, _>>=_, _>>_, byteRange, lead_to_then_else_}
+use Rattle.json_text.specs.Reader.{bad, Reader, _>>_, byteRange}
 use Rattle.json_text.specs.Utf8.{utf8Tail, thenTail, thenTails, multibyteChar}
 use Rattle.json_text.specs.Lexical.{unescaped}
 use Rattle.json_text.specs.code.Places.{Peeked, readAt, placeOf}

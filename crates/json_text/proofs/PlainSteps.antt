@@ -1,6 +1,6 @@
 -- A string without escapes: its bytes as they stand.
 use mathlib.Core.Path.{_≡_, refl, ap, sym, _∙_}
-use mathlib.Core.Bool.{Bool, true, false, not, and-eq-true-iff}
+use mathlib.Core.Bool.{Bool, true, false, not, and-false, and-eq-true-iff}
 use mathlib.Core.List.{[], _∷_, _++_}
 use Prim.Native.Nat.{ℕ, zero, suc, _+_, _-_, _≤_, _<_}
 use native.Mathlib.Nat.{lt-irrefl, add-zero}
@@ -244,17 +244,17 @@ module _ (s : Bytes) where
 -- ---- characters of one byte
 
 module _ (b : ℕ) where
-  pub ascii-low : b < 0x20 → false ≡ isAsciiChar b
+  pub ascii-low : {n : ℕ} → b < n → n ≤ 0x20 → false ≡ isAsciiChar b
   unfolding isAsciiChar
-  ascii-low h = rw (under 0x20 0x7F b h)
+  ascii-low h k = rw (under 0x20 0x7F b (omega arith))
 
-  pub ascii-high : 0x7F < b → false ≡ isAsciiChar b
+  pub ascii-high : {n : ℕ} → n < b → 0x7F ≤ n → false ≡ isAsciiChar b
   unfolding isAsciiChar
-  ascii-high h = rw (above 0x20 0x7F b h)
+  ascii-high h k = rw (above 0x20 0x7F b (omega arith))
 
-  pub ascii-quote : 0x20 ≤ b → b ≤ 0x7F → b ≡ 34 → false ≡ isAsciiChar b
+  pub ascii-quote : b ≡ 34 → false ≡ isAsciiChar b
   unfolding isAsciiChar
-  ascii-quote h k e = rw (inside 0x20 0x7F b h k, plain-not b e)
+  ascii-quote e = rw (plain-not b e, and-false (between 0x20 0x7F b))
 
   pub ascii-other : 0x20 ≤ b → b ≤ 0x7F → (b ≡ 34 → ⊥) → not (eqb b 92) ≡ isAsciiChar b
   unfolding isAsciiChar isPlain

@@ -1,33 +1,22 @@
 // Strings decoded to UTF-8 bytes, and compared with names.
 use super::Decoded;
+use super::ESCAPE;
 use super::Next;
 use super::Point;
 use super::Progress;
-use super::Text;
+use super::QUOTATION_MARK;
 use super::byte_at;
 use super::escapes::read_escape;
 use super::unescaped::skip_unescaped;
 ghost use mathlib.Core.Path.{_≡_};
 ghost use mathlib.Core.List.{[], _∷_};
-ghost use mathlib.Core.Option.{none};
 ghost use Prim.Native.Nat.{_-_};
 ghost use lib.ListN.{take, drop};
 ghost use Rattle.json_text.specs.Utf8.{encodeUtf8};
 ghost use Rattle.json_text.specs.Lexical.{readChar, readString};
-ghost use Rattle.json_text.specs.code.Places.{readAt, placeOf, content, contentOf, isText, Holds, Puts, PutsRead};
+ghost use Rattle.json_text.specs.code.Places.{readAt, contentOf, isText, Puts, PutsRead};
 
-// A wrong string.
-fn no_text() -> Decoded
-    ensures { λ r. ⌜ content r ≡ none ⌝ }
-{
-    Decoded {
-        bytes: [0u8; 512],
-        len: 0,
-        long: true,
-    }
-}
-
-// One byte more behind the n bytes that are held. A number above 512 says that there are more than are held.
+// One byte more behind the n bytes that are held, at most 512 (document 01, "The list"). A number above 512 says that there are more than are held.
 fn put(out: &mut [u8; 512], n: usize, b: u8) -> usize
     ensures { λ r. ⌜ Puts (now (out .entry)) n (b ∷ []) (now (out .exit)) r ⌝ }
 {
@@ -55,7 +44,7 @@ fn put_part(out: &mut [u8; 512], n: usize, s: &[u8], from: usize, to: usize) -> 
     m
 }
 
-// The bytes of a code point more.
+// The bytes of a code point more (RFC 3629, section 3, the table): six bits to each byte behind the first.
 fn put_code(out: &mut [u8; 512], n: usize, c: u32) -> usize
     ensures { λ r. ⌜ Puts (now (out .entry)) n (encodeUtf8 c) (now (out .exit)) r ⌝ }
 {
@@ -81,7 +70,7 @@ fn put_code(out: &mut [u8; 512], n: usize, c: u32) -> usize
 fn put_char(out: &mut [u8; 512], n: usize, s: &[u8], from: usize) -> Progress
     ensures { λ r. ⌜ PutsRead (now (out .entry)) n (readAt readChar (now (s .entry)) from) (now (out .exit)) r ⌝ }
 {
-    if byte_at(s, from) == 92 {
+    if byte_at(s, from) == ESCAPE {
         let Point::Code(c, i) = read_escape(s, from + 1) else {
             return Progress::Stuck;
         };
@@ -95,76 +84,41 @@ fn put_char(out: &mut [u8; 512], n: usize, s: &[u8], from: usize) -> Progress
     Progress::On(m, j)
 }
 
-// The string at a place, decoded, and the place behind it.
-pub fn decode_string(s: &[u8], from: usize) -> Text
-    ensures { λ r. ⌜ Holds (contentOf (readAt readString (now (s .entry)) from)) (placeOf (readAt readString (now (s .entry)) from)) r ⌝ }
+// The string at a place, decoded: how many bytes are held, and the place behind it.
+pub fn decode_string(out: &mut [u8; 512], s: &[u8], from: usize) -> Progress
+    ensures { λ r. ⌜ PutsRead (now (out .entry)) 0 (readAt readString (now (s .entry)) from) (now (out .exit)) r ⌝ }
 {
-    if byte_at(s, from) != 34 {
-        let wrong = no_text();
-        return Text {
-            decoded: wrong,
-            end: Next::Bad,
-        };
+    if byte_at(s, from) != QUOTATION_MARK {
+        return Progress::Stuck;
     }
-    let mut bytes = [0u8; 512];
     let mut n = 0;
     let mut i = from + 1;
     loop {
-        if byte_at(s, i) == 34 {
-            let decoded = Decoded {
-                bytes,
-                len: n,
-                long: 512 < n,
-            };
-            return Text {
-                decoded,
-                end: Next::At(i + 1),
-            };
+        if byte_at(s, i) == QUOTATION_MARK {
+            return Progress::On(n, i + 1);
         }
-        let Progress::On(m, j) = put_char(&mut bytes, n, s, i) else {
-            let wrong = no_text();
-            return Text {
-                decoded: wrong,
-                end: Next::Bad,
-            };
+        let Progress::On(m, j) = put_char(out, n, s, i) else {
+            return Progress::Stuck;
         };
         n = m;
         i = j;
     }
 }
 
-// ---- names
-
-// The decoded string is this one, byte for byte.
-pub fn is_text(d: Decoded, name: &[u8]) -> bool
-    ensures { λ r. ⌜ r ≡ isText (content d) (now (name .entry)) ⌝ }
-{
-    if d.long {
-        return false;
-    }
-    let n = d.len;
-    if n > 512 {
-        return false;
-    }
-    if n != name.len() {
-        return false;
-    }
-    let bytes = d.bytes;
-    let mut i: usize = 0;
-    while i < n {
-        if bytes[i] != name[i] {
-            return false;
-        }
-        i += 1;
-    }
-    true
-}
-
 // The string at a place, decoded, is this name; a string of more than 512 bytes is none.
 pub fn is_name(s: &[u8], from: usize, name: &[u8]) -> bool
     ensures { λ r. ⌜ r ≡ isText (contentOf (readAt readString (now (s .entry)) from)) (now (name .entry)) ⌝ }
 {
-    let t = decode_string(s, from);
-    let d = t.decoded;
-    is_text(d, name)
+    let mut d = Decoded {
+        bytes: [0u8; 512],
+        len: 0,
+    };
+    let Progress::On(n, _) = decode_string(&mut d.bytes, s, from) else {
+        return false;
+    };
+    d.len = n;
+    if 512 < d.len {
+        return false;
+    }
+    ascii::equal(ascii::prefix(&d.bytes, d.len), name)
 }

@@ -1,34 +1,63 @@
 // Escapes of a string (RFC 8259, section 7), read.
+use super::ESCAPE;
 use super::Next;
 use super::Point;
+use super::QUOTATION_MARK;
 use super::byte_at;
 use super::skip_word;
 ghost use mathlib.Core.Path.{_≡_};
 ghost use Rattle.json_text.specs.Lexical.{hexValue, hex4, codePoint, escaped};
 ghost use Rattle.json_text.specs.code.Places.{readAt, pointOf};
 
+const SLASH: u16 = b'/' as u16;
+
+const SMALL_B: u16 = b'b' as u16;
+
+const SMALL_F: u16 = b'f' as u16;
+
+const SMALL_N: u16 = b'n' as u16;
+
+const SMALL_R: u16 = b'r' as u16;
+
+const SMALL_T: u16 = b't' as u16;
+
+const SMALL_U: u16 = b'u' as u16;
+
+// The ends of the hexadecimal digits.
+const DIGIT_0: u32 = b'0' as u32;
+
+const DIGIT_9: u32 = b'9' as u32;
+
+const UPPER_A: u32 = b'A' as u32;
+
+const UPPER_F: u32 = b'F' as u32;
+
+const LOWER_A: u32 = b'a' as u32;
+
+const LOWER_F: u32 = b'f' as u32;
+
 // The value of a hexadecimal digit; 16 for any other byte.
 fn hex_digit(b: u16) -> u32
     ensures { λ r. ⌜ r ≡ hexValue b ⌝ }
 {
     let x = b as u32;
-    if x < 48 {
+    if x < DIGIT_0 {
         return 16;
     }
-    if x <= 57 {
-        return x - 48;
+    if x <= DIGIT_9 {
+        return x - DIGIT_0;
     }
-    if x < 65 {
+    if x < UPPER_A {
         return 16;
     }
-    if x <= 70 {
-        return x - 65 + 10;
+    if x <= UPPER_F {
+        return x - UPPER_A + 10;
     }
-    if x < 97 {
+    if x < LOWER_A {
         return 16;
     }
-    if x <= 102 {
-        return x - 97 + 10;
+    if x <= LOWER_F {
+        return x - LOWER_A + 10;
     }
     16
 }
@@ -59,7 +88,8 @@ fn read_hex(s: &[u8], from: usize) -> Point
     Point::Code(a * 0x1000 + b * 0x100 + c * 0x10 + d, k + 1)
 }
 
-// What follows `\u`: a code point, or a pair of surrogates.
+// What follows `\u`: a code point, or a high surrogate (0xD800 to 0xDBFF), `\u` and a low one (0xDC00 to 0xDFFF); a
+// surrogate not in such a pair is unreadable (document 01, "The list").
 fn read_code_point(s: &[u8], from: usize) -> Point
     ensures { λ r. ⌜ r ≡ pointOf (readAt codePoint (now (s .entry)) from) ⌝ }
 {
@@ -90,20 +120,20 @@ fn read_code_point(s: &[u8], from: usize) -> Point
     Point::Code(0x10000 + (c - 0xD800) * 0x400 + (low - 0xDC00), k)
 }
 
-// What follows a backslash.
+// What follows a backslash: one of the eight short escapes, with its code point, or `u`.
 pub fn read_escape(s: &[u8], from: usize) -> Point
     ensures { λ r. ⌜ r ≡ pointOf (readAt escaped (now (s .entry)) from) ⌝ }
 {
     match byte_at(s, from) {
-        34 => Point::Code(0x22, from + 1),
-        92 => Point::Code(0x5C, from + 1),
-        47 => Point::Code(0x2F, from + 1),
-        98 => Point::Code(0x08, from + 1),
-        102 => Point::Code(0x0C, from + 1),
-        110 => Point::Code(0x0A, from + 1),
-        114 => Point::Code(0x0D, from + 1),
-        116 => Point::Code(0x09, from + 1),
-        117 => read_code_point(s, from + 1),
+        QUOTATION_MARK => Point::Code(0x22, from + 1),
+        ESCAPE => Point::Code(0x5C, from + 1),
+        SLASH => Point::Code(0x2F, from + 1),
+        SMALL_B => Point::Code(0x08, from + 1),
+        SMALL_F => Point::Code(0x0C, from + 1),
+        SMALL_N => Point::Code(0x0A, from + 1),
+        SMALL_R => Point::Code(0x0D, from + 1),
+        SMALL_T => Point::Code(0x09, from + 1),
+        SMALL_U => read_code_point(s, from + 1),
         _ => Point::Wrong,
     }
 }

@@ -11,6 +11,23 @@ ghost use Rattle.json_text.specs.Reader.{got, word};
 ghost use Rattle.json_text.specs.Lexical.{isBlank, ws};
 ghost use Rattle.json_text.specs.code.Places.{Peeked, readAt, placeOf};
 
+// The structural characters (RFC 8259, section 2) and the two marks of a string (section 7), as wide as `byte_at` answers.
+pub const BEGIN_ARRAY: u16 = b'[' as u16;
+
+pub const BEGIN_OBJECT: u16 = b'{' as u16;
+
+pub const END_ARRAY: u16 = b']' as u16;
+
+pub const END_OBJECT: u16 = b'}' as u16;
+
+pub const NAME_SEPARATOR: u16 = b':' as u16;
+
+pub const VALUE_SEPARATOR: u16 = b',' as u16;
+
+pub const QUOTATION_MARK: u16 = b'"' as u16;
+
+pub const ESCAPE: u16 = b'\\' as u16;
+
 // The place behind what was read; or the bytes are wrong.
 pub enum Next {
     At(usize),
@@ -23,23 +40,11 @@ pub enum Point {
     Wrong,
 }
 
-// A number of at most 65535; or none.
-pub enum Number {
-    Is(u32),
-    Other,
-}
-
-// A decoded string of at most 512 bytes; `long` where it has more.
+// A decoded string, held by value where it has at most 512 bytes (document 01, "The list"); a length above 512 says
+// that it has more.
 pub struct Decoded {
     pub bytes: [u8; 512],
     pub len: usize,
-    pub long: bool,
-}
-
-// A decoded string and the place behind it.
-pub struct Text {
-    pub decoded: Decoded,
-    pub end: Next,
 }
 
 // How many bytes are held after a character, and the place behind it; or the character is wrong.
@@ -54,26 +59,27 @@ pub fn wide(x: u8) -> u16
     x as u16
 }
 
-// The byte at a place, and 256 past the end.
+// The byte at a place, and 256, which is no byte, past the end.
 pub fn byte_at(s: &[u8], at: usize) -> u16
     ensures { λ r. ⌜ Peeked (now (s .entry)) at r ⌝ }
 {
     if at < s.len() { wide(s[at]) } else { 256 }
 }
 
+// ws (RFC 8259, section 2): space, tab, line feed, carriage return.
 pub fn is_blank(b: u8) -> bool
     ensures { λ r. ⌜ r ≡ isBlank b ⌝ }
 {
-    if b == 0x20 {
+    if b == b' ' {
         return true;
     }
-    if b == 0x09 {
+    if b == b'\t' {
         return true;
     }
-    if b == 0x0A {
+    if b == b'\n' {
         return true;
     }
-    b == 0x0D
+    b == b'\r'
 }
 
 pub fn skip_blanks(s: &[u8], from: usize) -> usize

@@ -1,24 +1,36 @@
 // Numbers (RFC 8259, section 6).
 use super::Next;
-use super::Number;
 use super::byte_at;
-use super::wide;
 ghost use mathlib.Core.Path.{_≡_};
-ghost use Prim.Native.Nat.{_-_};
-ghost use lib.ListN.{take, drop};
-ghost use Rattle.ascii.specs.Ascii.{isDigit, number16, text};
+ghost use Rattle.ascii.specs.Ascii.{isDigit, text};
 ghost use Rattle.json_text.specs.Reader.{got, many, oneOf, optional};
 ghost use Rattle.json_text.specs.Lexical.{digits, int, frac, exp, readNumber};
-ghost use Rattle.json_text.specs.code.Places.{readAt, placeOf, numberOf};
+ghost use Rattle.json_text.specs.code.Places.{readAt, placeOf};
+
+const MINUS: u16 = b'-' as u16;
+
+const PLUS: u16 = b'+' as u16;
+
+const DECIMAL_POINT: u16 = b'.' as u16;
+
+const SMALL_E: u16 = b'e' as u16;
+
+const CAPITAL_E: u16 = b'E' as u16;
+
+const ZERO: u16 = b'0' as u16;
+
+const ONE: u16 = b'1' as u16;
+
+const NINE: u16 = b'9' as u16;
 
 // Two comparisons: the class table of `ascii` would be copied for each byte.
 fn is_digit(b: u8) -> bool
     ensures { λ r. ⌜ r ≡ isDigit b ⌝ }
 {
-    if b < 48 {
+    if b < b'0' {
         return false;
     }
-    b <= 57
+    b <= b'9'
 }
 
 pub fn skip_digits(s: &[u8], from: usize) -> usize
@@ -39,26 +51,27 @@ fn skip_some_digits(s: &[u8], from: usize) -> Next
     ensures { λ r. ⌜ r ≡ placeOf (readAt digits (now (s .entry)) from) ⌝ }
 {
     let b = byte_at(s, from);
-    if b < 48 {
+    if b < ZERO {
         return Next::Bad;
     }
-    if b <= 57 {
+    if b <= NINE {
         return Next::At(skip_digits(s, from + 1));
     }
     Next::Bad
 }
 
+// int = zero / ( digit1-9 *DIGIT )
 fn skip_int(s: &[u8], from: usize) -> Next
     ensures { λ r. ⌜ r ≡ placeOf (readAt int (now (s .entry)) from) ⌝ }
 {
     let b = byte_at(s, from);
-    if b == 48 {
+    if b == ZERO {
         return Next::At(from + 1);
     }
-    if b < 49 {
+    if b < ONE {
         return Next::Bad;
     }
-    if b <= 57 {
+    if b <= NINE {
         return Next::At(skip_digits(s, from + 1));
     }
     Next::Bad
@@ -68,7 +81,7 @@ fn skip_int(s: &[u8], from: usize) -> Next
 fn skip_frac(s: &[u8], from: usize) -> usize
     ensures { λ r. ⌜ readAt (optional frac) (now (s .entry)) from ≡ got tt r ⌝ }
 {
-    if byte_at(s, from) == 46 {
+    if byte_at(s, from) == DECIMAL_POINT {
         let Next::At(j) = skip_some_digits(s, from + 1) else {
             return from;
         };
@@ -81,7 +94,7 @@ fn skip_sign(s: &[u8], from: usize) -> usize
     ensures { λ r. ⌜ readAt (optional (oneOf (text "+-"))) (now (s .entry)) from ≡ got tt r ⌝ }
 {
     match byte_at(s, from) {
-        43 | 45 => from + 1,
+        PLUS | MINUS => from + 1,
         _ => from,
     }
 }
@@ -90,7 +103,7 @@ fn skip_exp(s: &[u8], from: usize) -> usize
     ensures { λ r. ⌜ readAt (optional exp) (now (s .entry)) from ≡ got tt r ⌝ }
 {
     match byte_at(s, from) {
-        69 | 101 => {
+        CAPITAL_E | SMALL_E => {
             let i = skip_sign(s, from + 1);
             let Next::At(j) = skip_some_digits(s, i) else {
                 return from;
@@ -106,7 +119,7 @@ fn skip_exp(s: &[u8], from: usize) -> usize
 fn skip_minus(s: &[u8], from: usize) -> usize
     ensures { λ r. ⌜ readAt (optional (oneOf (text "-"))) (now (s .entry)) from ≡ got tt r ⌝ }
 {
-    if byte_at(s, from) == 45 {
+    if byte_at(s, from) == MINUS {
         from + 1
     } else {
         from
@@ -122,38 +135,4 @@ pub fn skip_number(s: &[u8], from: usize) -> Next
     };
     let k = skip_frac(s, j);
     Next::At(skip_exp(s, k))
-}
-
-// The bytes of a part of s, read as digits and nothing else: a number of at most 65535.
-pub fn decimal_value(s: &[u8], from: usize, to: usize) -> Number
-    ensures { λ r. ⌜ numberOf r ≡ number16 (take (to - from) (drop from (now (s .entry)))) ⌝ }
-{
-    if to <= from {
-        return Number::Other;
-    }
-    if s.len() <= from {
-        return Number::Other;
-    }
-    let mut n: u32 = 0;
-    let mut i = from;
-    while i < to {
-        if i < s.len() {
-            let b = wide(s[i]);
-            if b < 48 {
-                return Number::Other;
-            }
-            if b > 57 {
-                return Number::Other;
-            }
-            let m = n * 10 + (b - 48) as u32;
-            if m > 65535 {
-                return Number::Other;
-            }
-            n = m;
-            i += 1;
-        } else {
-            return Number::Is(n);
-        }
-    }
-    Number::Is(n)
 }

@@ -1,6 +1,8 @@
 // Strings (RFC 8259, section 7), skipped.
+use super::ESCAPE;
 use super::Next;
 use super::Point;
+use super::QUOTATION_MARK;
 use super::byte_at;
 use super::escapes::read_escape;
 use super::unescaped::skip_unescaped;
@@ -13,7 +15,7 @@ ghost use Rattle.json_text.specs.code.PlainString.{isAsciiChar, AsciiStr
 fn skip_char(s: &[u8], from: usize) -> Next
     ensures { λ r. ⌜ r ≡ placeOf (readAt readChar (now (s .entry)) from) ⌝ }
 {
-    if byte_at(s, from) == 92 {
+    if byte_at(s, from) == ESCAPE {
         let Point::Code(c, j) = read_escape(s, from + 1) else {
             return Next::Bad;
         };
@@ -28,7 +30,7 @@ fn skip_chars(s: &[u8], from: usize) -> Next
 {
     let mut i = from;
     loop {
-        if byte_at(s, i) == 34 {
+        if byte_at(s, i) == QUOTATION_MARK {
             return Next::At(i + 1);
         }
         let Next::At(j) = skip_char(s, i) else {
@@ -41,7 +43,7 @@ fn skip_chars(s: &[u8], from: usize) -> Next
 pub fn skip_string(s: &[u8], from: usize) -> Next
     ensures { λ r. ⌜ r ≡ placeOf (readAt readString (now (s .entry)) from) ⌝ }
 {
-    if byte_at(s, from) == 34 {
+    if byte_at(s, from) == QUOTATION_MARK {
         skip_chars(s, from + 1)
     } else {
         Next::Bad
@@ -59,10 +61,10 @@ pub fn plain_end(s: &[u8], from: usize) -> Next
     let mut i = from + 1;
     while i < s.len() {
         let b = s[i];
-        if b == 34 {
+        if b == b'"' {
             return Next::At(i);
         }
-        if b == 92 {
+        if b == b'\\' {
             return Next::Bad;
         }
         i += 1;
@@ -72,6 +74,7 @@ pub fn plain_end(s: &[u8], from: usize) -> Next
 
 // ---- strings of characters of one byte
 
+// What `unescaped` of the RFC has below 0x80: from 0x20 on (controls are escaped), without the two marks.
 fn is_ascii_char(b: u8) -> bool
     ensures { λ r. ⌜ r ≡ isAsciiChar b ⌝ }
 {
@@ -81,10 +84,10 @@ fn is_ascii_char(b: u8) -> bool
     if 0x7F < b {
         return false;
     }
-    if b == 34 {
+    if b == b'"' {
         return false;
     }
-    b != 92
+    b != b'\\'
 }
 
 // The place behind the characters of one byte at a place.
@@ -106,11 +109,11 @@ fn skip_ascii(s: &[u8], from: usize) -> usize
 pub fn skip_ascii_string(s: &[u8], from: usize) -> Next
     ensures { λ r. ⌜ AsciiString (now (s .entry)) from r ⌝ }
 {
-    if byte_at(s, from) != 34 {
+    if byte_at(s, from) != QUOTATION_MARK {
         return Next::Bad;
     }
     let end = skip_ascii(s, from + 1);
-    if byte_at(s, end) == 34 {
+    if byte_at(s, end) == QUOTATION_MARK {
         return Next::At(end + 1);
     }
     Next::Bad

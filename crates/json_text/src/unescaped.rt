@@ -44,7 +44,7 @@ fn skip_with_tails(s: &[u8], from: usize, lo: u8, hi: u8) -> Next
     skip_with_tail(s, i, 0x80, 0xBF)
 }
 
-// A character of two to four bytes (RFC 3629, section 4).
+// UTF8-2, UTF8-3 or UTF8-4 (RFC 3629, section 4), each bound as it stands there.
 fn skip_multibyte(s: &[u8], from: usize) -> Next
     ensures { λ r. ⌜ r ≡ placeOf (readAt multibyteChar (now (s .entry)) from) ⌝ }
 {
@@ -79,6 +79,7 @@ fn skip_multibyte(s: &[u8], from: usize) -> Next
     Next::Bad
 }
 
+// unescaped = %x20-21 / %x23-5B / %x5D-10FFFF, from 0x80 on in UTF-8.
 pub fn skip_unescaped(s: &[u8], from: usize) -> Next
     ensures { λ r. ⌜ r ≡ placeOf (readAt unescaped (now (s .entry)) from) ⌝ }
 {

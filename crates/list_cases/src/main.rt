@@ -1,5 +1,6 @@
 // Bodies on both sides of each bound of document 01, "The list": what is refused, or the first two selected entries, decoded.
 use json_text::Next;
+use json_text::Progress;
 use libc::STDOUT_FILENO;
 use trusted_list::Selection;
 
@@ -7,23 +8,23 @@ fn write(s: &[u8]) {
     io::write_all(STDOUT_FILENO, s);
 }
 
+// The first n bytes; more than 512 are not held.
+fn write_held(bytes: &[u8; 512], n: usize) {
+    if 512 < n {
+        write(b" long");
+        return;
+    }
+    write(b" ");
+    write(ascii::prefix(bytes, n));
+}
+
 // The entry at a place; returns the place of the next one.
 fn write_entry(body: &[u8], at: usize) -> Next {
-    let t = json_text::decoding::decode_string(body, at);
-    let d = t.decoded;
-    let bytes = d.bytes;
-    let held: &[u8] = &bytes;
-    let n = d.len;
-    if d.long {
-        write(b" long");
-    } else if n <= held.len() {
-        write(b" ");
-        write(&held[0..n]);
-    }
-    let e = t.end;
-    let Next::At(j) = e else {
+    let mut bytes = [0u8; 512];
+    let Progress::On(n, j) = json_text::decoding::decode_string(&mut bytes, body, at) else {
         return Next::Bad;
     };
+    write_held(&bytes, n);
     trusted_list::next_entry(body, j)
 }
 
@@ -74,6 +75,10 @@ fn shapes() {
         b"three entries",
         b"{\"trustedFacets\":[{\"version\":{\"major\":1,\"minor\":0},\"ids\":[\"a\",\"b\",\"c\"]}]}",
     );
+}
+
+// Bodies that are no object with `trustedFacets` once.
+fn bodies() {
     show(b"an array", b"[]");
     show(b"a string", b"\"trustedFacets\"");
     show(b"no trustedFacets", b"{}");
@@ -93,6 +98,10 @@ fn shapes() {
         b"trustedFacets in another case",
         b"{\"trustedfacets\":[{\"version\":{\"major\":1,\"minor\":0},\"ids\":[\"a\"]}]}",
     );
+}
+
+// Lists that are no array of objects with `version` and `ids` once each.
+fn objects() {
     show(
         b"an object for the array",
         b"{\"trustedFacets\":{\"version\":{\"major\":1,\"minor\":0},\"ids\":[\"a\"]}}",
@@ -119,6 +128,10 @@ fn shapes() {
         b"an id that is null",
         b"{\"trustedFacets\":[{\"version\":{\"major\":1,\"minor\":0},\"ids\":[\"a\",null]}]}",
     );
+}
+
+// Members that are missing, twice, or others.
+fn members() {
     show(
         b"an object without ids behind the selected one",
         b"{\"trustedFacets\":[{\"version\":{\"major\":1,\"minor\":0},\"ids\":[\"a\"]},{\"version\":{\"major\":1,\"minor\":0}}]}",
@@ -213,6 +226,9 @@ fn readings() {
         b"the byte 7F",
         b"{\"trustedFacets\":[{\"version\":{\"major\":1,\"minor\":0},\"ids\":[\"\x7f\"]}]}",
     );
+}
+
+fn escapes() {
     show(
         b"an unpaired surrogate",
         b"{\"trustedFacets\":[{\"version\":{\"major\":1,\"minor\":0},\"ids\":[\"\\ud800\"]}]}",
@@ -233,6 +249,9 @@ fn readings() {
         b"bad UTF-8",
         b"{\"trustedFacets\":[{\"version\":{\"major\":1,\"minor\":0},\"ids\":[\"\xc3\"]}]}",
     );
+}
+
+fn nestings() {
     show(
         b"16 deep in a skipped member",
         b"{\"x\":[[[[[[[[[[[[[[[]]]]]]]]]]]]]]],\"trustedFacets\":[{\"version\":{\"major\":1,\"minor\":0},\"ids\":[\"a\"]}]}",
@@ -246,7 +265,12 @@ fn readings() {
 
 fn main() {
     shapes();
+    bodies();
+    objects();
+    members();
     numbers();
     selections();
     readings();
+    escapes();
+    nestings();
 }

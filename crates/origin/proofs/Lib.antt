@@ -6,4 +6,3 @@ pub mod Writings
 pub mod Origins
 pub mod NormalForms
 pub mod PlainBytes
-pub mod Bounds

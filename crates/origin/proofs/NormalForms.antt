@@ -1,13 +1,13 @@
 -- Normal forms: read again, no longer, matched alike, plain ASCII. Assumes nothing.
 use mathlib.Core.Path.{_≡_, refl, sym, ap, _∙_}
 use mathlib.Core.List.{[], _∷_, _++_, append-nil}
-use mathlib.Core.Bool.{Bool, true, false, _&&_, _||_, and-eq-true-iff}
+use mathlib.Core.Bool.{Bool, true, false, _||_, and-eq-true-iff}
 use mathlib.Core.Option.{Option, none, some}
-use Prim.Native.Nat.{ℕ, _+_, _-_, _≤_, _<_}
+use Prim.Native.Nat.{ℕ, _+_, _≤_}
 use native.Mathlib.Omega.{arith}
 use lib.ListN.{length, length-append}
 use borrow.Author.Tests.{le-leb}
-use Rattle.ascii.specs.Ascii.{Bytes, if_then_else_, _>>=_, isEmpty, all, takeWhile, dropWhile, isDigit, isUpper, isLetter, same, sameNoCase, lowerByte, lower, beginsWith, beginsWithNoCase, text, value, valueFrom}
+use Rattle.ascii.specs.Ascii.{Bytes, if_then_else_, isEmpty, all, takeWhile, dropWhile, isDigit, isUpper, isLetter, same, sameNoCase, lowerByte, lower, beginsWith, beginsWithNoCase, text, value, valueFrom}
 use Rattle.ascii.proofs.Compare.{length-lower}
 use Rattle.suffix.specs.Host.{isHost, isLabelByte}
 use Rattle.suffix.proofs.Case.{is-byte, is-label-byte, lower-lower, map-map-eq, all-lower, is-host}

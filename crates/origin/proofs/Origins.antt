@@ -1,9 +1,9 @@
 -- What is known of a text that is read as a web origin or an HTTPS URL, and of native identities. Assumes nothing.
-use mathlib.Core.Path.{_≡_, refl, sym, ap, ap₂, _∙_}
+use mathlib.Core.Path.{_≡_, refl, sym, ap, ap₂}
 use mathlib.Core.List.{[], _∷_, _++_}
 use mathlib.Core.Bool.{Bool, true, false, _&&_, _||_, not, or-true, and-eq-true-iff}
 use mathlib.Core.Option.{Option, none, some}
-use Prim.Native.Nat.{ℕ, _+_, _-_, _≤_, _<_}
+use Prim.Native.Nat.{ℕ, _+_, _≤_}
 use native.Mathlib.Omega.{arith}
 use lib.ListN.{length, drop, length-append, length-drop}
 use lib.Dec.{eqb, leb}
@@ -14,7 +14,7 @@ pub use Rattle.ascii.proofs.Compare.{same-eq}
 use Rattle.ascii.proofs.OptionLaws.{Holds, holds}
 use Rattle.ascii.proofs.Scan.{while-all, while-rest, while-length}
 use Rattle.suffix.specs.Host.{isHost}
-use Rattle.origin.specs.Origin.{Authority, beginsHttps, androidPrefix, iosPrefix, isPort, readPort, isHostByte, readHost, readHttps, webOrigin, isKeyHashByte, isAndroid, isIos, beginsNative, isNative, isFacet, shownPort, isTail, httpsUrl}
+use Rattle.origin.specs.Origin.{Authority, beginsHttps, androidPrefix, iosPrefix, isPort, readPort, isHostByte, readHost, readHttps, webOrigin, isKeyHashByte, isAndroid, isIos, beginsNative, isNative, isFacet, shownPort}
 
 -- ---- tests
 
@@ -103,14 +103,6 @@ then-read s (some a) f h = go (f (a .tail))
 pub origin-read : (s : Bytes) (a : Authority) → webOrigin s ≡ some a → ReadOf s a
 unfolding webOrigin
 origin-read s a e = holds (ReadOf s) (webOrigin s) a (then-read s (readHttps s) (λ t. isEmpty t || same t (text "/")) (https-read s)) e
-
-pub url-read : (s : Bytes) (a : Authority) → httpsUrl s ≡ some a → ReadOf s a
-unfolding httpsUrl
-url-read s a e = go (leb (length s) 2048) e
-  where
-    go : (u : Bool) → (if u then (readHttps s >>= λ a. if isTail (a .tail) then some a else none) else none) ≡ some a → ReadOf s a
-    go true e = holds (ReadOf s) (readHttps s >>= λ a. if isTail (a .tail) then some a else none) a (then-read s (readHttps s) isTail (https-read s)) e
-    go false e = let z : _≡_ {A = ℕ} 0 1 = cc in absurd (omega arith)
 
 pub port-digits : (p : Bytes) → isPort p ≡ true → all isDigit p ≡ true
 unfolding isPort number16

@@ -1,7 +1,7 @@
 -- Where the parts of a web origin or an HTTPS URL stand. Assumes nothing.
 use mathlib.Core.Path.{_≡_, refl, sym, _∙_}
-use mathlib.Core.Bool.{Bool, true, false, _&&_, _||_, not, and-false}
-use mathlib.Core.List.{[], _∷_}
+use mathlib.Core.Bool.{Bool, true, false, _&&_, not, and-false}
+use mathlib.Core.List.{[]}
 use mathlib.Core.Option.{Option, none, some}
 use Prim.Native.Nat.{ℕ, _+_, _-_, _≤_, _<_}
 use native.Mathlib.Numerals.{add-one}
@@ -10,7 +10,7 @@ use lib.ListN.{length, getD, take, drop, drop-of-length-le}
 use lib.Seq.{drop-cons}
 use lib.Dec.{leb}
 use borrow.Author.Tests.{ne-eqb, lt-leb, le-leb, leb-true, leb-false}
-use Rattle.ascii.specs.Ascii.{Bytes, if_then_else_, _>>=_, _when_, isEmpty, all, takeWhile, isDigit, same, sameNoCase, beginsWith, beginsWithNoCase, text, value, valueFrom, number16}
+use Rattle.ascii.specs.Ascii.{Bytes, if_then_else_, _when_, isEmpty, all, takeWhile, isDigit, same, sameNoCase, beginsWith, beginsWithNoCase, text, value, valueFrom, number16}
 use Rattle.ascii.specs.code.Numbers.{numberOf}
 use Rattle.ascii.specs.declared.decimals.Number.{Number}
 use Rattle.ascii.specs.declared.decimals.Number.the-variants.{Value, Malformed as NoNumber}

@@ -1,8 +1,9 @@
 -- Single steps: bytes, prefixes, tails and native identities. Assumes nothing.
-use mathlib.Core.Path.{_≡_, refl, ap, _∙_}
-use mathlib.Core.Bool.{Bool, true, false, _&&_, _||_, not, and-false, or-true}
+use mathlib.Core.Path.{_≡_, refl, ap, sym, _∙_}
+use mathlib.Core.Bool.{Bool, true, false, _&&_, _||_, not, and-false, or-true, and-eq-true-iff}
 use mathlib.Core.List.{[], _∷_}
-use Prim.Native.Nat.{ℕ, suc, _+_, _-_, _≤_, _<_}
+use Prim.Native.Nat.{ℕ, suc, _+_, _≤_, _<_}
+use Prim.Native.Char.{code}
 use native.Mathlib.Omega.{arith}
 use lib.ListN.{length, getD, drop, length-drop}
 use lib.Dec.{eqb, leb, ltb}
@@ -109,14 +110,19 @@ while-from f s k h =
 
 -- ---- ports and tails
 
-module _ (p : Bytes) {a : Bool} (e : a ≡ beginsWith (text "0") p) where
-  pub port-zero : a ≡ true → Malformed ≡ portOf p
-  unfolding portOf
-  port-zero h = rw (← e, h)
+first-zero : (x p : Bytes) → beginsWith (code "0" ∷ x) p ≡ true → beginsWith (text "0") p ≡ true
+unfolding beginsWith
+first-zero x [] e = e
+first-zero x (c ∷ p) e = rw (and-eq-true-iff (eqb (code "0") c) (beginsWith x p) .0 e .0)
 
-  pub port-number : {q : Number} → a ≡ false → q ≡ numberOf (number16 p) → q ≡ portOf p
-  unfolding portOf
-  port-number h f = f ∙ rw (← e, h)
+-- any text that begins with a zero
+pub port-zero : (p x : Bytes) {a : Bool} → a ≡ beginsWith (code "0" ∷ x) p → a ≡ true → Malformed ≡ portOf p
+unfolding portOf
+port-zero p x e h = rw (first-zero x p (sym e ∙ h))
+
+pub port-number : (p : Bytes) {a : Bool} {q : Number} → a ≡ beginsWith (text "0") p → a ≡ false → q ≡ numberOf (number16 p) → q ≡ portOf p
+unfolding portOf
+port-number p e h f = f ∙ rw (← e, h)
 
 pub end-none : (t : Bytes) → length t ≡ 0 → true ≡ isEnd t
 unfolding isEnd

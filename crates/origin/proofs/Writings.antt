@@ -1,6 +1,6 @@
 -- Bytes written into a lent slice, and normal forms written by their parts. Assumes nothing.
 use mathlib.Core.Path.{_≡_, refl, sym, ap, _∙_}
-use mathlib.Core.Bool.{Bool, true, false, _||_}
+use mathlib.Core.Bool.{Bool, true, false}
 use mathlib.Core.List.{[], _∷_, _++_, append-assoc, append-nil}
 use mathlib.Core.Option.{Option}
 use Prim.Native.Nat.{ℕ, suc, _+_, _-_, _≤_, _<_}
@@ -11,7 +11,7 @@ use lib.Seq.{drop-cons, length-take-le, paste, paste-zero, paste-suc, take-all, 
 use lib.Dec.{leb}
 use borrow.Author.Needs.{needs}
 use borrow.Author.Tests.{le-leb, lt-leb, leb-true, leb-false}
-use Rattle.ascii.specs.Ascii.{Bytes, if_then_else_, isEmpty, lowerByte, lower, same, text}
+use Rattle.ascii.specs.Ascii.{Bytes, isEmpty, lowerByte, lower, same, text}
 use Rattle.ascii.proofs.Compare.{length-lower}
 use Rattle.suffix.proofs.Places.{getD-lower}
 use Rattle.origin.specs.Origin.{Authority, webOrigin, shownPort, normalWeb, normalOf, normalForm}

@@ -1,5 +1,5 @@
 -- Web origins, native identities, facets, HTTPS URLs and normal forms (document 01, "Identifiers").
-use mathlib.Core.List.{[], _∷_, _++_}
+use mathlib.Core.List.{[], _++_}
 use mathlib.Core.Bool.{Bool, _&&_, _||_, not}
 use mathlib.Core.Option.{Option, none, some}
 use Prim.Native.Nat.{ℕ}

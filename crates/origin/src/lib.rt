@@ -46,6 +46,7 @@ fn is_host_byte(classes: &[u8; 256], b: u8) -> bool
     requires { ⌜ Classifies (now classes) ⌝ }
     ensures { λ r. ⌜ r ≡ isHostByte b ⌝ }
 {
+    // 0 letters, 1 digits, 2 the hyphen, 3 the dot
     classes[b as usize] < 4
 }
 
@@ -98,7 +99,7 @@ fn read_port(s: &[u8], end: usize) -> Reading
     if s.len() <= end {
         return no_port(end);
     }
-    if s[end] != 58 {
+    if s[end] != b':' {
         return no_port(end);
     }
     let from = end + 1;
@@ -153,6 +154,7 @@ fn is_end(t: &[u8]) -> bool
     ascii::equal(t, b"/")
 }
 
+// `https://`, a host, optionally a port, optionally one final `/`.
 pub fn web_origin(s: &[u8]) -> Reading
     ensures { λ r. ⌜ Reads (now (s .entry)) (webOrigin (now (s .entry))) r ⌝ }
 {
@@ -177,7 +179,7 @@ fn is_tail_byte(b: u8) -> bool
     if 0x7E < b {
         return false;
     }
-    b != 0x23
+    b != b'#'
 }
 
 // The place behind the bytes of a tail.
@@ -219,6 +221,7 @@ fn is_tail(t: &[u8]) -> bool
     }
 }
 
+// `https://`, a host, optionally a port, and a tail, in at most 2,048 bytes.
 pub fn https_url(s: &[u8]) -> Reading
     ensures { λ r. ⌜ Reads (now (s .entry)) (httpsUrl (now (s .entry))) r ⌝ }
 {
@@ -241,13 +244,14 @@ fn is_key_hash_byte(classes: &[u8; 256], b: u8) -> bool
     requires { ⌜ Classifies (now classes) ⌝ }
     ensures { λ r. ⌜ r ≡ isKeyHashByte b ⌝ }
 {
+    // a letter or a digit
     if classes[b as usize] < 2 {
         return true;
     }
-    if b == 43 {
+    if b == b'+' {
         return true;
     }
-    b == 47
+    b == b'/'
 }
 
 // The place behind the bytes of a key hash at a place.
@@ -266,7 +270,7 @@ fn key_hash_stop(classes: &[u8; 256], s: &[u8], from: usize) -> usize
     i
 }
 
-// Exactly 27 characters behind the prefix of 21.
+// Exactly 27 characters behind the prefix of 21: 48 bytes.
 pub fn is_android(s: &[u8]) -> bool
     ensures { λ r. ⌜ r ≡ isAndroid (now (s .entry)) ⌝ }
 {
@@ -281,7 +285,7 @@ pub fn is_android(s: &[u8]) -> bool
     }
 }
 
-// 1 to 255 letters, digits, hyphens or dots behind the prefix of 14.
+// 1 to 255 letters, digits, hyphens or dots behind the prefix of 14: 15 to 269 bytes.
 pub fn is_ios(s: &[u8]) -> bool
     ensures { λ r. ⌜ r ≡ isIos (now (s .entry)) ⌝ }
 {
@@ -340,10 +344,10 @@ pub fn same_host(caller: &[u8], appid: &[u8]) -> bool
 fn is_stop(b: u8) -> bool
     ensures { λ r. ⌜ r ≡ isStop b ⌝ }
 {
-    if b == 58 {
+    if b == b':' {
         return true;
     }
-    b == 47
+    b == b'/'
 }
 
 // A host may end at the place.
@@ -368,7 +372,7 @@ fn are_apart(x: &[u8], y: &[u8], at: usize) -> bool
     true
 }
 
-// Two identifiers differ before their hosts end: they do not match, and need not be read.
+// Two identifiers differ before their hosts end: they do not match, and need not be read. A host begins at 8, behind `https://`.
 fn are_unlike(x: &[u8], y: &[u8]) -> bool
     ensures { λ r. ⌜ r ≡ unlike (drop 8 (now (x .entry))) (drop 8 (now (y .entry))) ⌝ }
 {

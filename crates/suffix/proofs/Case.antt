@@ -3,7 +3,7 @@ use mathlib.Core.Path.{_≡_, refl, sym, ap, ap₂, _∙_}
 use mathlib.Core.List.{List, [], _∷_, _++_, map, map-append}
 use mathlib.Core.Bool.{Bool, true, false, _&&_, _||_, and-eq-true-iff}
 use mathlib.Core.Option.{Option, none, some, Option·map}
-use Prim.Native.Nat.{ℕ, zero, suc, _+_, _-_, _≤_, _<_}
+use Prim.Native.Nat.{ℕ, zero, suc, _+_, _≤_, _<_}
 use native.Mathlib.Omega.{arith}
 use lib.ListN.{length, take, drop, length-map}
 use lib.Dec.{eqb, leb}
@@ -167,10 +167,6 @@ labels-of : (rules : List Rule) (host : List Bytes) → privateLabels rules (map
 unfolding privateLabels
 labels-of rules host =
     simp (is-address, suffix-lower, length-map, last-map, ← if-map (Option·map (map lower)))
-
-lower-append : (s t : Bytes) → lower (s ++ t) ≡ lower s ++ lower t
-unfolding lower
-lower-append s t = map-append lowerByte s t
 
 prefixed-lower : (ls : List Bytes) → prefixed 46 (map lower ls) ≡ lower (prefixed 46 ls)
 unfolding prefixed lower lowerByte isUpper

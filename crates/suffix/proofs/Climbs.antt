@@ -1,7 +1,7 @@
 -- How deep rules go along a host, and the pass of `label_found`. Assumes nothing.
 use mathlib.Core.Path.{_≡_, refl, sym, ap, ap₂, _∙_}
 use mathlib.Core.Bool.{Bool, true, false, _&&_, _||_, and-eq-true-iff}
-use mathlib.Core.List.{List, [], _∷_, _++_}
+use mathlib.Core.List.{List, [], _∷_}
 use mathlib.Core.Option.{Option, none, some}
 use Prim.Native.Nat.{ℕ, suc, _+_, _-_, _≤_, _<_, max}
 use native.Mathlib.Omega.{arith}
@@ -278,9 +278,9 @@ pub record Deeps (host table : Bytes) (e m d at : ℕ) : Type 0 where
   pub pass : Pass host table (bestOf (labels host) (readTable table)) e m at
   pub depth : max d (linesDepth (labels host) (splitAt 10 (drop at table))) ≡ linesDepth (labels host) (splitAt 10 table)
 
-pub deeps-long : (host table : Bytes) → 1048576 < length table → Wrong ≡ depthsOf (labels host) (readTable table)
+pub deeps-long : (host table : Bytes) {n : ℕ} → n < length table → 1048576 ≤ n → Wrong ≡ depthsOf (labels host) (readTable table)
 unfolding depthsOf readTable
-deeps-long host table l = rw (lt-leb (length table) 1048576 l)
+deeps-long host table l m = rw (lt-leb (length table) 1048576 (omega arith))
 
 pub deeps-starts : (host table : Bytes) → length table ≤ 1048576 → Deeps host table 0 0 0 0
 deeps-starts host table l = record { pass = pass-starts host table l; depth = omega arith }
@@ -395,8 +395,8 @@ module _ (table host : Bytes) where
       pub owner-whole : k ≤ n → OwnerIs table host (Label (length host) false)
       owner-whole l = owner-is good-is (none-found (at-whole table host h h′ i i′ best refl s c l))
 
-      pub owner-label : {r : ℕ} → n < k → Stands (lastOf (n + 1) (labels host)) host r → OwnerIs table host (Label r (ltb n d))
-      owner-label l S = owner-is good-is (record {
+      label-owner : {r : ℕ} → n < k → Stands (lastOf (n + 1) (labels host)) host r → OwnerIs table host (Label r (ltb n d))
+      label-owner l S = owner-is good-is (record {
         place = at-label table host h h′ i i′ best refl s c l S;
         deeper-is = leb-ltb n d ∙ to-depth e m d (n + 1) (readTable table) (sym t′ ∙ t) (omega arith) (omega arith)
             ∙ sym (rw (labelled table host h h′ i i′ best refl s c l) deep);
@@ -404,6 +404,20 @@ module _ (table host : Bytes) where
         where
           deep : deeperThan table (some (joinWith 46 (lastOf (n + 1) (labels host)))) ≡ deeperIn (lastOf (n + 1) (labels host)) (readTable table)
           deep = unfold deeperThan isDeeper in (ap (λ (ls : List Bytes). deeperIn ls (readTable table)) (last-names host (n + 1) (omega arith)))
+
+  -- facts without the names of the answers that tell them, so that only the first premise of `owner-label` holds unknowns
+  pub found-told : {q : Depths} {e m d : ℕ} → q ≡ Found e m d → q ≡ depthsOf (labels host) (readTable table) → Found e m d ≡ depthsOf (labels host) (readTable table)
+  found-told t′ t = sym t′ ∙ t
+
+  pub name-told : {b : Bool} → b ≡ isAddress (labels host) → b ≡ false → isAddress (labels host) ≡ false
+  name-told i i′ = sym i ∙ i′
+
+  pub fewer-told : {n k : ℕ} → k ≡ length (labels host) → n < k → n < length (labels host)
+  fewer-told c l = omega arith
+
+  pub owner-label : {e m d n r : ℕ} → n ≡ sizeOf e m → Found e m d ≡ depthsOf (labels host) (readTable table)
+      → isHost host ≡ true → isAddress (labels host) ≡ false → n < length (labels host) → Stands (lastOf (n + 1) (labels host)) host r → OwnerIs table host (Label r (ltb n d))
+  owner-label s t h i l S = label-owner t refl refl h refl i s refl l S
 
 pub wild-goes-is : (v w : Bytes) {q : Bool} → isHost w ≡ true → q ≡ endsAtLabel v w → q ≡ goesDeeper (labels v) (normal ((42 ∷ []) ∷ labels w))
 wild-goes-is v w h e = e ∙ wild-goes v w h

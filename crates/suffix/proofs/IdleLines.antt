@@ -9,7 +9,7 @@ use lib.ListN.{length, getD, drop, length-drop, List·getD-map}
 use lib.Seq.{drop-cons, getD-drop}
 use lib.Dec.{eqb, leb, ltb}
 use borrow.Author.Tests.{ne-eqb, eqb-true, leb-true, le-ltb, ltb-false}
-use Rattle.ascii.specs.Ascii.{Bytes, if_then_else_, takeWhile, lastOf, isUpper, lowerByte, lower, same, sameNoCase, splitAt, isDigit, isLetter, beginsWith}
+use Rattle.ascii.specs.Ascii.{Bytes, takeWhile, lastOf, isUpper, lowerByte, lower, same, sameNoCase, splitAt, isDigit, isLetter, beginsWith}
 use Rattle.ascii.proofs.Scan.{scan-to}
 use Rattle.ascii.proofs.Split.{join-split}
 use Rattle.suffix.specs.Host.{labels, isLabelByte, isHost}

@@ -1,6 +1,6 @@
 -- The kinds of bytes, and the table of them. Assumes nothing.
 use mathlib.Core.Path.{_≡_, refl, sym, _∙_}
-use mathlib.Core.Bool.{Bool, true, false, _&&_, _||_, and-false}
+use mathlib.Core.Bool.{Bool, true, false, and-false}
 use mathlib.Core.List.{[], _∷_}
 use Prim.Native.Nat.{ℕ, zero, suc, _+_, _-_, _*_, _≤_, _<_}
 use native.Mathlib.Omega.{arith}
@@ -124,9 +124,9 @@ pub start-kept : (k start next : ℕ) → (k ≡ 8 → ⊥) → start ≡ (if eq
 start-kept k start next n = rw (ne-eqb k 8 n)
 
 module _ (g p start next : ℕ) {k x y : ℕ} (e : k ≡ g) (a : x ≡ p) (b : y ≡ k) where
-  pub advance-off : 24 < x + 3 * y → Off ≡ stepOf g p start next
+  pub advance-off : {n : ℕ} → n < x + 3 * y → 24 ≤ n → Off ≡ stepOf g p start next
   unfolding stepOf
-  advance-off h = rw (lt-leb (p + 3 * g) 24 (omega arith))
+  advance-off h l = rw (lt-leb (p + 3 * g) 24 (omega arith))
 
   pub advance-on : {r : ℕ} → x + 3 * y ≤ 24 → r ≡ (if eqb k 8 then next else start) → On r k ≡ stepOf g p start next
   unfolding stepOf

@@ -1,6 +1,6 @@
 -- One line of the table: what it finds for a host. Assumes nothing.
 use mathlib.Core.Path.{_≡_, refl, sym, ap, ap₂, _∙_}
-use mathlib.Core.Bool.{Bool, true, false, _&&_, _||_, and-false, or-true, and-eq-true-iff}
+use mathlib.Core.Bool.{Bool, true, false, _&&_, and-false, or-true, and-eq-true-iff}
 use mathlib.Core.List.{List, [], _∷_, _++_}
 use mathlib.Core.Option.{none, some}
 use Prim.Native.Nat.{ℕ, suc, _+_, _-_, _≤_, _<_, max}
@@ -13,7 +13,7 @@ use lib.Seq.{take-all}
 use lib.ListN.{length-drop, length-append}
 use lib.Dec.{eqb, leb, ltb}
 use borrow.Author.Tests.{eqb-true, lt-leb, le-leb, ltb-true, ltb-false}
-use Rattle.ascii.specs.Ascii.{Bytes, if_then_else_, _>>=_, all, filterBy, lastOf, joinHead, splitAt, isDigit, isLetter, isUpper, same, beginsWith}
+use Rattle.ascii.specs.Ascii.{Bytes, if_then_else_, all, filterBy, lastOf, joinHead, splitAt, isDigit, isLetter, isUpper, same, beginsWith}
 use Rattle.ascii.proofs.Split.{split-parts, split-other}
 use Rattle.suffix.specs.Host.{labels, isLabelByte, isLabel, isHost}
 use Rattle.suffix.specs.code.Place.{endsAtLabel}
@@ -121,12 +121,12 @@ module _ (h w : Bytes) (k : isHost w ≡ true) {b : Bool} (e : b ≡ endsAtLabel
   pub host-no : b ≡ false → Sizes 0 0 ≡ bestOf (labels h) (oneRule (readRule w))
   host-no f = rw (rule-host w k) (one-none (labels h) (normal (labels w)) (match-labels false w h k ∙ sym e ∙ f))
 
-pub wild-fits : (v : Bytes) {n : ℕ} → n ≡ length (labels v) → length v ≤ 251 → Fits w64 (n + 1)
-wild-fits v g l = record { fits = omega (arith, g, labels-few v) }
+pub wild-fits : (v : Bytes) {n k : ℕ} → n ≡ length (labels v) → length v ≤ k → k ≤ 1000 → Fits w64 (n + 1)
+wild-fits v g l m = record { fits = omega (arith, g, labels-few v) }
 
 module _ (h v : Bytes) where
-  pub wild-long : 251 < length v → Bad ≡ bestOf (labels h) (oneRule (readRule (42 ∷ 46 ∷ v)))
-  wild-long l = rw (rule-wild-long v l) (none-bad (labels h))
+  pub wild-long : {n : ℕ} → n < length v → 251 ≤ n → Bad ≡ bestOf (labels h) (oneRule (readRule (42 ∷ 46 ∷ v)))
+  wild-long l m = rw (rule-wild-long v (omega arith)) (none-bad (labels h))
 
   module _ {a : Bool} (c : a ≡ isHost v) where
     pub wild-bad : a ≡ false → Bad ≡ bestOf (labels h) (oneRule (readRule (42 ∷ 46 ∷ v)))

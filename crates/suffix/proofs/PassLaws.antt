@@ -11,8 +11,6 @@ pub ruleset pass-laws = (
   part-end,
   line-wrong,
   line-found,
-  deeps-long,
-  passes-first,
   round-starts,
   round-ends,
   round-stands,
@@ -23,3 +21,6 @@ pub ruleset pass-laws = (
   round-more,
   needs,
 )
+
+-- of `deep_rules`
+pub ruleset table-laws = (deeps-long, passes-first, needs)

@@ -1,7 +1,7 @@
 -- The pass over the table, line by line. Assumes nothing.
 use mathlib.Core.Path.{_≡_, refl, sym, ap₂, _∙_}
-use mathlib.Core.Bool.{Bool, true, false, _&&_, _||_, not, and-false, or-true, and-eq-true-iff}
-use mathlib.Core.List.{List, [], _∷_, _++_}
+use mathlib.Core.Bool.{Bool, true, false, _&&_, not, and-false, or-true, and-eq-true-iff}
+use mathlib.Core.List.{List, [], _∷_}
 use mathlib.Core.Option.{Option, none, some}
 use Prim.Native.Nat.{ℕ, suc, _+_, _-_, _≤_, _<_, max}
 use native.Mathlib.Omega.{arith}
@@ -11,9 +11,9 @@ use mir.Syntax.{w64}
 use lib.ListN.{length, getD, take, drop, drop-of-length-le}
 use lib.Seq.{drop-cons}
 use lib.Dec.{eqb, ltb}
-use borrow.Author.Tests.{eq-eqb, ne-eqb, eqb-true, lt-leb, le-leb, ltb-true, ltb-false, not-false}
+use borrow.Author.Tests.{eq-eqb, ne-eqb, eqb-true, le-leb, ltb-true, ltb-false, not-false}
 use Rattle.ascii.specs.Ascii.{Bytes, if_then_else_, _>>=_, filterBy, takeWhile, dropWhile, splitAt}
-use Rattle.ascii.proofs.Scan.{while-stops, scan-rest, scan-part, scan-from, scan-to}
+use Rattle.ascii.proofs.Scan.{while-stops, scan-rest, scan-part, scan-to}
 use Rattle.ascii.proofs.Split.{onFirst, split-while, on-first-end, on-first-here}
 use Rattle.suffix.specs.Host.{labels}
 use Rattle.suffix.specs.Suffix.{Rule, isBlank, content, isSkipped, readRule, readLines, readTable, matches}
@@ -199,10 +199,6 @@ next-line s at to k g i = i ∙ rw (scan-rest inContent s at to g) (omega (arith
 pub record Pass (host table : Bytes) (goal : Best) (e m at : ℕ) : Type 0 where
   pub is : joinBest (Sizes e m) (bestOf (labels host) (readLines (splitAt 10 (drop at table)))) ≡ goal
 
-pub pass-long : (host table : Bytes) → 1048576 < length table → Bad ≡ bestOf (labels host) (readTable table)
-unfolding readTable bestOf
-pass-long host table l = rw (lt-leb (length table) 1048576 l)
-
 pub pass-starts : (host table : Bytes) → length table ≤ 1048576 → Pass host table (bestOf (labels host) (readTable table)) 0 0 0
 unfolding readTable
 pass-starts host table l = record { is = rw (le-leb (length table) 1048576 l) (join-zero (bestOf (labels host) (readLines (splitAt 10 table)))) }
@@ -215,12 +211,6 @@ module _ {host table : Bytes} {goal : Best} {e m at : ℕ} (P : Pass host table 
       zeros e m = unfold joinBest in (ap₂ Sizes (omega arith) (omega arith))
 
   module _ {to : ℕ} (g : to ≡ at + length (takeWhile inContent (drop at table))) where
-    pub pass-part-start : at ≤ to
-    pass-part-start = scan-from inContent table at to g
-
-    pub pass-part-end : at < length table → to ≤ length table
-    pass-part-end l = scan-to inContent table at to g (omega arith)
-
     module _ {q : Best} (t : q ≡ bestOf (labels host) (readLine (take (to - at) (drop at table)))) where
       found : bestOf (labels host) (readLine (takeWhile inContent (drop at table))) ≡ q
       found = sym (t ∙ rw (scan-part inContent table at to g))
@@ -239,9 +229,6 @@ module _ {host table : Bytes} {goal : Best} {e m at : ℕ} (P : Pass host table 
       module _ {f n k : ℕ} (b : q ≡ Sizes f n) (i : k ≡ to + length (takeWhile inLine (drop to table))) where
         pub pass-more : {x y : ℕ} → x ≡ max e f → y ≡ max m n → Pass host table goal x y (k + 1)
         pass-more c d = record { is = rw (c, d, ← join-join, ← b) (pass-on i) }
-
-  pub pass-less : {to k : ℕ} → to ≡ at + length (takeWhile inContent (drop at table)) → k ≡ to + length (takeWhile inLine (drop to table)) → at < length table → length table - (k + 1) < length table - at
-  pass-less g i l = omega (arith, g, i)
 
 pub pass-fits : (table : Bytes) {at to k : ℕ} → k ≡ to + length (takeWhile inLine (drop to table)) → to ≡ at + length (takeWhile inContent (drop at table)) → at < length table → length table ≤ 1048576 → Fits w64 (k + 1)
 pass-fits table {at} {to} {k} i g l m =

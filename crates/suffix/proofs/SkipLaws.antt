@@ -313,8 +313,8 @@ shallow-deeps {host} {table} {e} {m} {d} {at} {to} D I = record {
   depth = sym (I .depth) ∙ D .depth;
 }
 
-pub passes-first : {kinds host table : Bytes} {last : ℕ} → KindsOf host kinds → Stands (lastOf 1 (labels host)) host last → length table ≤ 1048576 → Passes kinds host table 0 last 0
-passes-first K S h = record { kinds-are = K; stands = S; inside = omega arith; short = h }
+pub passes-first : {kinds host table : Bytes} {last : ℕ} → length table ≤ 1048576 → KindsOf host kinds → Stands (lastOf 1 (labels host)) host last → Passes kinds host table 0 last 0
+passes-first h K S = record { kinds-are = K; stands = S; inside = omega arith; short = h }
 
 -- the place for the larger depth
 pub deeper-more : (host : Bytes) (depth d : ℕ) {r : ℕ} → depth < d → Stands (lastOf (suc d) (labels host)) host r → Stands (lastOf (suc (max depth d)) (labels host)) host r

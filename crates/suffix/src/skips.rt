@@ -39,23 +39,25 @@ fn last_byte(s: &[u8]) -> u8
     s[s.len() - 1]
 }
 
+// 0 a letter or digit, 1 one alike to `last`, 6 the hyphen, 7 the dot, 8 LF, 9 the rest.
 fn kind_of(classes: &[u8; 256], last: u8, b: u8) -> u8
     requires { ⌜ Classifies (now classes) ⌝ }
     ensures { λ r. ⌜ r ≡ kindOf last b ⌝ }
 {
+    // a letter or a digit
     if classes[b as usize] < 2 {
         if ascii::alike(b, last) {
             return 1;
         }
         return 0;
     }
-    if b == 45 {
+    if b == b'-' {
         return 6;
     }
-    if b == 46 {
+    if b == b'.' {
         return 7;
     }
-    if b == 10 {
+    if b == b'\n' {
         return 8;
     }
     9
@@ -83,14 +85,16 @@ fn kind(kinds: &[u8; 256], b: u8) -> u8
     kinds[b as usize]
 }
 
-// Behind an LF a new line begins.
+// Behind an LF, whose kind is 8, a new line begins.
 fn line_start(k: u8, start: usize, next: usize) -> usize
     ensures { λ r. ⌜ r ≡ (if eqb k 8 then next else start) ⌝ }
 {
     if k == 8 { next } else { start }
 }
 
-// The byte at a place of a line, behind one of a kind.
+// The byte at a place of a line, behind one of a kind. The kinds are numbered so that it may stand there where one sum is at most
+// 24: a letter or digit (0 or 3) behind any byte; a hyphen (18) behind all but dot (7) and LF (8); a dot (21) behind a letter or
+// digit (0 or 1); an LF (24) behind one that is not alike to the host's last byte (0).
 fn advance(kinds: &[u8; 256], s: &[u8], at: usize, before: u8, start: usize) -> Step
     requires { ⌜ (length (now kinds) ≡ 256) × (at < length (now s)) ⌝ }
     ensures { λ r. ⌜ r ≡ stepOf (getD (now (kinds .entry)) (getD (now (s .entry)) at 0) 9) before start (at + 1) ⌝ }
@@ -103,7 +107,7 @@ fn advance(kinds: &[u8; 256], s: &[u8], at: usize, before: u8, start: usize) -> 
     Step::On(line_start(k, start, at + 1), k)
 }
 
-// Such a byte that may not stand there.
+// Such a byte that may not stand there: the LF (8) behind a byte alike to the host's last (1) ends a host, all else another line.
 fn halt(kinds: &[u8; 256], s: &[u8], at: usize, before: u8, start: usize) -> Stop
     requires { ⌜ (length (now kinds) ≡ 256) × (at < length (now s)) ⌝ }
     ensures { λ r. ⌜ r ≡ stopOf (getD (now (kinds .entry)) (getD (now (s .entry)) at 0) 9) before start at ⌝ }
@@ -117,13 +121,15 @@ fn halt(kinds: &[u8; 256], s: &[u8], at: usize, before: u8, start: usize) -> Sto
     Stop::Other(start)
 }
 
-// Four bytes a turn, over lines that are hosts whose last byte is not alike to the host's: these cannot match it, nor go
-// deeper than its last label. A line of 60 bytes or more is left to others.
+// Over lines that are hosts whose last byte is not alike to the host's: these cannot match it, nor go deeper than its last label.
+// Four bytes a turn, so that the end and the line's length are tested once for four. A line of 60 bytes or more is left to
+// others: a shorter one has at most 63 behind the turn, and so no label that is too long.
 fn plain_lines(kinds: &[u8; 256], host: &[u8], s: &[u8], from: usize) -> Stop
     requires { ⌜ KindsOf (now host) (now kinds) × (from ≤ length (now s)) ⌝ }
     ensures { λ r. ⌜ Stopped (now (host .entry)) (now (s .entry)) from r ⌝ }
 {
     let mut start = from;
+    // as behind an LF
     let mut before = 8;
     let mut i = from;
     while 4 <= s.len() - i {
@@ -160,16 +166,17 @@ fn plain_lines(kinds: &[u8; 256], host: &[u8], s: &[u8], from: usize) -> Stop
 fn in_line(b: u8) -> bool
     ensures { λ r. ⌜ r ≡ inLine b ⌝ }
 {
-    if b == 10 {
+    if b == b'\n' {
         return false;
     }
     true
 }
 
+// The place k of an LF, 64 of another byte.
 fn lf_at(k: u8, b: u8) -> u8
     ensures { λ r. ⌜ r ≡ lfAt k b ⌝ }
 {
-    if b == 10 { k } else { 64 }
+    if b == b'\n' { k } else { 64 }
 }
 
 fn lesser_of(a: u8, b: u8) -> u8
@@ -178,7 +185,8 @@ fn lesser_of(a: u8, b: u8) -> u8
     if a < b { a } else { b }
 }
 
-// Where the line ends in the 64 bytes at a place, 64 where it goes on. Each turn does the same, so that the turns are done at once.
+// Where the line ends in the 64 bytes at a place, 64 where it goes on. Each turn does the same and their number is fixed, so that
+// the compiler does many at once.
 fn end_in_block(s: &[u8], from: usize) -> u8
     requires { ⌜ from + 64 ≤ length (now s) ⌝ }
     ensures { λ r. ⌜ r ≡ blockEnd (now (s .entry)) from ⌝ }
@@ -207,7 +215,8 @@ pub(crate) fn short_end(s: &[u8], from: usize) -> usize
     i
 }
 
-// Where a line ends: its LF, or the end. The first byte alone before a block: many comments are empty.
+// Where a line ends: its LF, or the end; in blocks of 64 bytes while there are so many. The first byte alone before a block: many
+// comments are empty.
 pub(crate) fn line_end(s: &[u8], from: usize) -> usize
     ensures { λ r. ⌜ r ≡ from + length (takeWhile inLine (drop from (now (s .entry)))) ⌝ }
 {
@@ -216,7 +225,7 @@ pub(crate) fn line_end(s: &[u8], from: usize) -> usize
         if s.len() - i < 64 {
             return short_end(s, i);
         }
-        if s[i] == 10 {
+        if s[i] == b'\n' {
             return i;
         }
         let n = wide(end_in_block(s, i));
@@ -233,16 +242,16 @@ fn next_line(s: &[u8], at: usize) -> usize
     requires { ⌜ (at < length (now s)) × (length (now s) ≤ 1048576) ⌝ }
     ensures { λ r. ⌜ Skipped (now (s .entry)) at r ⌝ }
 {
-    if s[at] == 10 {
+    if s[at] == b'\n' {
         return at + 1;
     }
     if s.len() - at < 2 {
         return at;
     }
-    if s[at] != 47 {
+    if s[at] != b'/' {
         return at;
     }
-    if s[at + 1] != 47 {
+    if s[at + 1] != b'/' {
         return at;
     }
     line_end(s, at + 2) + 1

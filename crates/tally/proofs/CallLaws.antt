@@ -1,11 +1,12 @@
 -- The whole tally: a refusal, or the counts of the selected entries.
 use mathlib.Core.Path.{_≡_, _∙_}
-use mathlib.Core.Bool.{Bool}
 use Prim.Native.Nat.{ℕ, _≤_}
 use lib.ListN.{length}
 use Rattle.ascii.specs.Ascii.{Bytes}
 use Rattle.refusals.specs.declared.Refusal.{Refusal}
-use Rattle.decision.specs.code.Meaning.{Owned, IdsThere, entriesAt}
+use Rattle.entries.specs.code.Owner.{Owned}
+use Rattle.entries.specs.code.Reading.{IdsThere, entriesAt}
+use Rattle.entries.specs.declared.Owner.{Owner}
 use Rattle.cleaning.specs.code.Meaning.{ListedAt, Prepares}
 use Rattle.cleaning.specs.declared.Ready.{Ready}
 use Rattle.cleaning.specs.declared.Ready.the-variants.{Refused as NotReady, Listed}
@@ -20,11 +21,11 @@ module _ {appid : Bytes} {major minor : ℕ} {body table : Bytes} {w : Ready} (P
   unfolding tallyOf tally orTally
   tally-refused h = rw (prepared-refusal P h)
 
-  module _ {start end : ℕ} {deeper : Bool} {ids : ℕ} (h : w ≡ Listed start end deeper ids) where
-    L : ListedAt appid major minor body table start end deeper ids
+  module _ {o : Owner} {ids : ℕ} (h : w ≡ Listed o ids) where
+    L : ListedAt appid major minor body table o ids
     L = prepared-listed P h
 
-    pub tally-owned : Owned appid table start end deeper
+    pub tally-owned : Owned appid table o
     tally-owned = L .owned
 
     pub tally-there : IdsThere body ids

@@ -9,7 +9,9 @@ use lib.Dec.{eqb}
 use Rattle.ascii.specs.Ascii.{Bytes, if_then_else_, filterBy}
 use Rattle.refusals.specs.declared.Refusal.{Refusal}
 use Rattle.trusted_list.specs.TrustedList.{entries}
-use Rattle.causes.specs.Causes.{Cause, tooLong, otherScheme, notFacet, otherLabel, cause}
+use Rattle.entries.specs.Causes.{cause}
+use Rattle.entries.specs.declared.Cause.{Cause}
+use Rattle.entries.specs.declared.Cause.the-variants.{TooLong, OtherScheme, NotFacet, OtherLabel}
 use Rattle.cleaning.specs.Clean.{cleanRefusal}
 use Rattle.tally.specs.Tally.{causeNumber, Counts, total, countOf, counts, tallied, orTally, tally}
 
@@ -25,10 +27,10 @@ counts-total appid table (e ∷ es) = go (cause appid table e) (counts-total app
     go : (c : Option Cause) → total (counts appid table es) ≡ length es
         → length (those c 0) + length (those c 1) + length (those c 2) + length (those c 3) + length (those c 4) ≡ suc (length es)
     go none h = omega arith
-    go (some tooLong) h = omega arith
-    go (some otherScheme) h = omega arith
-    go (some notFacet) h = omega arith
-    go (some otherLabel) h = omega arith
+    go (some TooLong) h = omega arith
+    go (some OtherScheme) h = omega arith
+    go (some NotFacet) h = omega arith
+    go (some OtherLabel) h = omega arith
 
 -- of a tally: its counts add up to the number of selected entries
 pub tally-total : (appid : Bytes) (major minor : ℕ) (body table : Bytes) (c : Counts) → tally appid major minor body table ≡ tallied c → total c ≡ length (entries major minor body)

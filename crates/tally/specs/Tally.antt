@@ -7,16 +7,18 @@ use lib.Dec.{eqb}
 use Rattle.ascii.specs.Ascii.{Bytes, filterBy}
 use Rattle.refusals.specs.declared.Refusal.{Refusal}
 use Rattle.trusted_list.specs.TrustedList.{entries}
-use Rattle.causes.specs.Causes.{Cause, tooLong, otherScheme, notFacet, otherLabel, cause}
+use Rattle.entries.specs.Causes.{cause}
+use Rattle.entries.specs.declared.Cause.{Cause}
+use Rattle.entries.specs.declared.Cause.the-variants.{TooLong, OtherScheme, NotFacet, OtherLabel}
 use Rattle.cleaning.specs.Clean.{cleanRefusal}
 
 -- 1 to 4 a cause, 0 kept
 abbrev pub causeNumber : Option Cause → ℕ
 causeNumber none = 0
-causeNumber (some tooLong) = 1
-causeNumber (some otherScheme) = 2
-causeNumber (some notFacet) = 3
-causeNumber (some otherLabel) = 4
+causeNumber (some TooLong) = 1
+causeNumber (some OtherScheme) = 2
+causeNumber (some NotFacet) = 3
+causeNumber (some OtherLabel) = 4
 
 -- kept entries and each of the four causes
 pub record Counts : Type 0 where

@@ -3,13 +3,13 @@ use mathlib.Core.Path.{_≡_, refl, sym, ap, _∙_}
 use mathlib.Core.Bool.{Bool, true, false}
 use mathlib.Core.List.{List, [], _∷_}
 use mathlib.Core.Option.{Option, none, some}
-use Prim.Native.Nat.{ℕ, zero, suc, _+_, _≤_, _<_}
+use Prim.Native.Nat.{ℕ, zero, suc, _+_}
 use native.Mathlib.Omega.{arith}
 use lib.Dec.{eqb}
 use borrow.Author.Tests.{eqb-true, eqb-false}
 use lib.ListN.{length, drop}
 use Rattle.ascii.specs.Ascii.{Bytes, if_then_else_, _>>=_ as _then_}
-use Rattle.json_text.specs.Reader.{Read, got, bad, Reader, _>>=_, _>>_, give, fail, oneOf, peek, ifNext_then_else_, mapped, counted}
+use Rattle.json_text.specs.Reader.{Read, got, bad, Reader, _>>_, give, fail, oneOf, peek, ifNext_then_else_, mapped, counted}
 use Rattle.json_text.specs.Lexical.{ws, readString}
 use Rattle.json_text.specs.code.Places.{Peeked, readAt, placeOf}
 use Rattle.json_text.specs.declared.Next.the-variants.{At, Bad}

@@ -1,14 +1,14 @@
 -- What the first byte of a value tells of it.
 use mathlib.Core.Path.{_≡_, refl, sym, ap, _∙_}
-use mathlib.Core.Bool.{Bool, true, false, _&&_, _||_, and-false}
+use mathlib.Core.Bool.{Bool, true, false, and-false}
 use mathlib.Core.List.{[], _∷_}
 use mathlib.Core.Option.{none}
-use Prim.Native.Nat.{ℕ, zero, suc, _+_, _-_, _≤_, _<_}
+use Prim.Native.Nat.{ℕ, zero, suc, _+_, _-_, _<_}
 use native.Mathlib.Omega.{arith}
 use lib.Dec.{eqb, leb}
 use lib.ListN.{take, drop}
 use borrow.Author.Tests.{eqb-true, eqb-false, eq-eqb, ne-eqb, lt-leb}
-use Rattle.ascii.specs.Ascii.{Bytes, if_then_else_, _when_, all, among, isDigit, number16}
+use Rattle.ascii.specs.Ascii.{Bytes, if_then_else_, all, among, isDigit, number16}
 use Rattle.json_text.specs.Reader.{Read, got, bad, Reader, more, peek, fail, ifNext_then_else_, _giving_, verbatim, asWritten, mapped}
 use Rattle.json_text.specs.Lexical.{readNumber, readString}
 use Rattle.json_text.specs.code.Places.{Peeked, readAt}

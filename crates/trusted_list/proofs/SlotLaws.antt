@@ -1,9 +1,7 @@
 -- What the pass holds of two values together: one law for each way through the code.
 use mathlib.Core.Path.{_≡_, refl}
-use mathlib.Core.Bool.{_&&_}
 use Prim.Native.Nat.{ℕ}
 use borrow.Author.Tests.{eq-eqb, ne-eqb}
-use Rattle.ascii.specs.Ascii.{if_then_else_}
 use Rattle.trusted_list.specs.code.Slots.{fill, versionOf, listingOf, earlier}
 use Rattle.trusted_list.specs.declared.Slot.{Slot}
 use Rattle.trusted_list.specs.declared.Slot.the-variants.{Absent, Held, Other, Spoiled}

@@ -1,5 +1,14 @@
 // The trusted facets list: one pass from a body's bytes to the selected ids, then entry after entry.
+// The body is nested at most 16 deep (document 01, "The list"): `readValue 16` is the body, and each object or array
+// that is open around a value leaves it one level less, down to 12 for a number of `version` and a string of `ids`.
+use json_text::BEGIN_ARRAY;
+use json_text::BEGIN_OBJECT;
+use json_text::END_ARRAY;
+use json_text::END_OBJECT;
+use json_text::NAME_SEPARATOR;
 use json_text::Next;
+use json_text::QUOTATION_MARK;
+use json_text::VALUE_SEPARATOR;
 use refusals::Refusal;
 ghost use mathlib.Core.Path.{_≡_};
 ghost use Rattle.ascii.specs.Ascii.{text};
@@ -61,14 +70,14 @@ fn member_value(s: &[u8], from: usize) -> Next
         return Next::Bad;
     };
     let j = json_text::skip_blanks(s, i);
-    if json_text::byte_at(s, j) != 58 {
+    if json_text::byte_at(s, j) != NAME_SEPARATOR {
         return Next::Bad;
     }
     let k = json_text::skip_blanks(s, j + 1);
     Next::At(k)
 }
 
-// A number of `version`: digits only, at most 65535.
+// A number of `version`: written as digits only, at most 65535.
 fn read_number(s: &[u8], from: usize) -> Found
     ensures { λ r. ⌜ Relates (Came NumberIs) (readAt (readValue 12) (now (s .entry)) from) (slotRead r) ⌝ }
 {
@@ -121,7 +130,7 @@ fn version_members(s: &[u8], from: usize) -> Walked
         first: Slot::Absent,
         second: Slot::Absent,
     };
-    if json_text::byte_at(s, first) == 125 {
+    if json_text::byte_at(s, first) == END_OBJECT {
         return Walked::Through(first + 1, two);
     }
     let mut at = first;
@@ -131,10 +140,10 @@ fn version_members(s: &[u8], from: usize) -> Walked
         };
         let k = json_text::skip_blanks(s, j);
         let b = json_text::byte_at(s, k);
-        if b == 125 {
+        if b == END_OBJECT {
             return Walked::Through(k + 1, next);
         }
-        if b != 44 {
+        if b != VALUE_SEPARATOR {
             return Walked::Stuck;
         }
         two = next;
@@ -173,7 +182,7 @@ fn version_slot(two: Two, major: u16, minor: u16) -> Slot
 fn read_version(s: &[u8], from: usize, major: u16, minor: u16) -> Found
     ensures { λ r. ⌜ Relates (Came (VersionIs major minor)) (readAt (readValue 13) (now (s .entry)) from) (slotRead r) ⌝ }
 {
-    if json_text::byte_at(s, from) == 123 {
+    if json_text::byte_at(s, from) == BEGIN_OBJECT {
         let Walked::Through(j, two) = version_members(s, from + 1) else {
             return Found::Wrong;
         };
@@ -205,7 +214,7 @@ fn ids_value(s: &[u8], at: usize, two: Two) -> Walked
     let Next::At(j) = json::skip_value(s, at, 12) else {
         return Walked::Stuck;
     };
-    if b == 34 {
+    if b == QUOTATION_MARK {
         return Walked::Through(j, two);
     }
     Walked::Through(
@@ -226,7 +235,7 @@ fn ids_items(s: &[u8], from: usize) -> Walked
         first: Slot::Other,
         second: Slot::Absent,
     };
-    if json_text::byte_at(s, first) == 93 {
+    if json_text::byte_at(s, first) == END_ARRAY {
         return Walked::Through(first + 1, two);
     }
     let mut at = first;
@@ -236,10 +245,10 @@ fn ids_items(s: &[u8], from: usize) -> Walked
         };
         let k = json_text::skip_blanks(s, j);
         let b = json_text::byte_at(s, k);
-        if b == 93 {
+        if b == END_ARRAY {
             return Walked::Through(k + 1, next);
         }
-        if b != 44 {
+        if b != VALUE_SEPARATOR {
             return Walked::Stuck;
         }
         two = next;
@@ -251,7 +260,7 @@ fn ids_items(s: &[u8], from: usize) -> Walked
 fn read_ids(s: &[u8], from: usize) -> Found
     ensures { λ r. ⌜ Relates (Came (IdsIs (now (s .entry)))) (readAt (readValue 13) (now (s .entry)) from) (slotRead r) ⌝ }
 {
-    if json_text::byte_at(s, from) == 91 {
+    if json_text::byte_at(s, from) == BEGIN_ARRAY {
         let Walked::Through(j, two) = ids_items(s, from + 1) else {
             return Found::Wrong;
         };
@@ -308,7 +317,7 @@ fn listing_members(s: &[u8], from: usize, major: u16, minor: u16) -> Walked
         first: Slot::Absent,
         second: Slot::Absent,
     };
-    if json_text::byte_at(s, first) == 125 {
+    if json_text::byte_at(s, first) == END_OBJECT {
         return Walked::Through(first + 1, two);
     }
     let mut at = first;
@@ -318,10 +327,10 @@ fn listing_members(s: &[u8], from: usize, major: u16, minor: u16) -> Walked
         };
         let k = json_text::skip_blanks(s, j);
         let b = json_text::byte_at(s, k);
-        if b == 125 {
+        if b == END_OBJECT {
             return Walked::Through(k + 1, next);
         }
-        if b != 44 {
+        if b != VALUE_SEPARATOR {
             return Walked::Stuck;
         }
         two = next;
@@ -352,7 +361,7 @@ fn listing_slot(two: Two) -> Slot
 fn read_listing(s: &[u8], from: usize, major: u16, minor: u16) -> Found
     ensures { λ r. ⌜ Relates (ListingIs (now (s .entry)) major minor) (readAt (readValue 14) (now (s .entry)) from) (slotRead r) ⌝ }
 {
-    if json_text::byte_at(s, from) == 123 {
+    if json_text::byte_at(s, from) == BEGIN_OBJECT {
         let Walked::Through(j, two) = listing_members(s, from + 1, major, minor) else {
             return Found::Wrong;
         };
@@ -410,7 +419,7 @@ fn list_items(s: &[u8], from: usize, major: u16, minor: u16) -> Walked
         first: Slot::Other,
         second: Slot::Absent,
     };
-    if json_text::byte_at(s, first) == 93 {
+    if json_text::byte_at(s, first) == END_ARRAY {
         return Walked::Through(first + 1, two);
     }
     let mut at = first;
@@ -420,10 +429,10 @@ fn list_items(s: &[u8], from: usize, major: u16, minor: u16) -> Walked
         };
         let k = json_text::skip_blanks(s, j);
         let b = json_text::byte_at(s, k);
-        if b == 93 {
+        if b == END_ARRAY {
             return Walked::Through(k + 1, next);
         }
-        if b != 44 {
+        if b != VALUE_SEPARATOR {
             return Walked::Stuck;
         }
         two = next;
@@ -435,7 +444,7 @@ fn list_items(s: &[u8], from: usize, major: u16, minor: u16) -> Walked
 fn read_list(s: &[u8], from: usize, major: u16, minor: u16) -> Found
     ensures { λ r. ⌜ Relates (Came (ListIs (now (s .entry)) major minor)) (readAt (readValue 15) (now (s .entry)) from) (slotRead r) ⌝ }
 {
-    if json_text::byte_at(s, from) == 91 {
+    if json_text::byte_at(s, from) == BEGIN_ARRAY {
         let Walked::Through(j, two) = list_items(s, from + 1, major, minor) else {
             return Found::Wrong;
         };
@@ -480,7 +489,7 @@ fn body_members(s: &[u8], from: usize, major: u16, minor: u16) -> Walked
         first: Slot::Absent,
         second: Slot::Absent,
     };
-    if json_text::byte_at(s, first) == 125 {
+    if json_text::byte_at(s, first) == END_OBJECT {
         return Walked::Through(first + 1, two);
     }
     let mut at = first;
@@ -490,10 +499,10 @@ fn body_members(s: &[u8], from: usize, major: u16, minor: u16) -> Walked
         };
         let k = json_text::skip_blanks(s, j);
         let b = json_text::byte_at(s, k);
-        if b == 125 {
+        if b == END_OBJECT {
             return Walked::Through(k + 1, next);
         }
-        if b != 44 {
+        if b != VALUE_SEPARATOR {
             return Walked::Stuck;
         }
         two = next;
@@ -505,7 +514,7 @@ fn body_members(s: &[u8], from: usize, major: u16, minor: u16) -> Walked
 fn read_body(s: &[u8], from: usize, major: u16, minor: u16) -> Found
     ensures { λ r. ⌜ Relates (BodyIs (now (s .entry)) major minor) (readAt (readValue 16) (now (s .entry)) from) (slotRead r) ⌝ }
 {
-    if json_text::byte_at(s, from) == 123 {
+    if json_text::byte_at(s, from) == BEGIN_OBJECT {
         let Walked::Through(j, two) = body_members(s, from + 1, major, minor) else {
             return Found::Wrong;
         };
@@ -518,7 +527,7 @@ fn read_body(s: &[u8], from: usize, major: u16, minor: u16) -> Found
     Found::Value(j, Slot::Spoiled)
 }
 
-// The refusal of a body for the wanted version, 9 to 12; or the place of the selected ids.
+// The refusal of a body for the wanted version, 9 (over 65,536 bytes) to 12; or the place of the selected ids.
 pub fn select(body: &[u8], major: u16, minor: u16) -> Selection
     ensures { λ r. ⌜ Answers major minor (now (body .entry)) r ⌝ }
 {
@@ -547,11 +556,11 @@ pub fn select(body: &[u8], major: u16, minor: u16) -> Selection
 pub fn first_entry(body: &[u8], ids: usize) -> Next
     ensures { λ r. ⌜ r ≡ firstEntry (now (body .entry)) ids ⌝ }
 {
-    if json_text::byte_at(body, ids) != 91 {
+    if json_text::byte_at(body, ids) != BEGIN_ARRAY {
         return Next::Bad;
     }
     let i = json_text::skip_blanks(body, ids + 1);
-    if json_text::byte_at(body, i) == 93 {
+    if json_text::byte_at(body, i) == END_ARRAY {
         return Next::Bad;
     }
     Next::At(i)
@@ -562,7 +571,7 @@ pub fn next_entry(body: &[u8], end: usize) -> Next
     ensures { λ r. ⌜ r ≡ nextEntry (now (body .entry)) end ⌝ }
 {
     let k = json_text::skip_blanks(body, end);
-    if json_text::byte_at(body, k) != 44 {
+    if json_text::byte_at(body, k) != VALUE_SEPARATOR {
         return Next::Bad;
     }
     let i = json_text::skip_blanks(body, k + 1);

@@ -1,6 +1,7 @@
 //! Tests of the hub's calls into the proved library: against document 01 by hand, against a model of it,
 //! and against other people's programs and published tests.
 
+mod boundary;
 mod case;
 mod check;
 mod cleaning;

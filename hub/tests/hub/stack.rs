@@ -12,8 +12,9 @@ use std::{
     ptr::null_mut,
 };
 
-/// The most that a call may take.
-const MOST: usize = 64 * 1024;
+/// The most that a call may take, as README states it: 6 KiB. The hub's own functions, on the same stack, take
+/// more where they are not optimized.
+const MOST: usize = if cfg!(debug_assertions) { 7 * 1024 } else { 6 * 1024 };
 
 const STACK: usize = 1024 * 1024;
 const PATTERN: u128 = 0xA55A_C33C_9669_F00F_1EE1_D22D_B44B_8778;
@@ -169,7 +170,7 @@ fn nested() -> Vec<(String, u16, Vec<u8>)> {
 }
 
 #[test]
-fn every_call_takes_at_most_64_kib_of_stack() {
+fn every_call_takes_at_most_6_kib_of_stack() {
     use facets_hub::{clean, decision_code, decision_code_with_place, fetch_location, private_label, tally};
     let mut most = [
         ("facets_private_label", 0),

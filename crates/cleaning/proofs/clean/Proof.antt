@@ -11,7 +11,7 @@ clean-spec =
     (λ c κs. search cleaning)
     {- enum-known-x -}
     (λ c. search cleaning)
-    {- enum-known-start -}
+    {- enum-known-owner -}
     (λ c. search cleaning)
     {- write-list-requires -}
     (λ c κs. search cleaning)

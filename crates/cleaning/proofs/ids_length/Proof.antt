@@ -1,8 +1,7 @@
 -- `cleaning::ids_length` meets its contract.
-use Prim.Native.Nat.{_-_}
 use mathlib.Core.Bool.{true}
 use lib.ListN.{length}
-use Rattle.decision.specs.code.Meaning.{entriesAt}
+use Rattle.entries.specs.code.Reading.{entriesAt, left}
 use Rattle.cleaning.specs.code.Meaning.{names, idsText}
 use Rattle.cleaning.proofs.SizeLaws.{Sizes}
 use Rattle.cleaning.proofs.Laws.{sizing}
@@ -10,10 +9,10 @@ use Rattle.cleaning.proofs.ids_length.Statement.{statement}
 use Rattle.cleaning.proofs.ids_length.Tie as tie
 
 abbrev Inv-loop : tie.InvT-loop
-Inv-loop appid start end deeper body ids table i at₀ n₀ at n = Sizes appid table start end deeper body (length (idsText true (names appid table (entriesAt body ids)))) at n
+Inv-loop appid owner body ids table d₀ at₀ n₀ d at n = Sizes appid owner table body (length (idsText true (names appid table (entriesAt body ids)))) (d .bytes) at n
 
 abbrev μ-loop : tie.MeasureT-loop
-μ-loop appid start end deeper body ids table i at₀ n₀ at n = length body - at
+μ-loop appid owner body ids table d₀ at₀ n₀ d at n = left body at
 
 pub ids-length-spec : {M : Type 1} → statement M
 ids-length-spec =
@@ -23,39 +22,31 @@ ids-length-spec =
     μ-loop
     {- first-entry-requires -}
     (λ c κs. search sizing)
-    {- enum-known-i -}
+    {- loop-holds -}
+    (λ c. search sizing)
+    {- enum-known-at -}
     (λ c. search sizing)
     {- enum-told -}
     (λ c. search sizing)
     {- returns -}
     (λ c. search sizing)
-    {- loop-holds -}
-    (λ c. search sizing)
-    {- sub-size-entry -}
-    (λ c. search sizing)
-    {- part-size-entry-start -}
-    (λ c. search sizing)
-    {- part-size-entry-end -}
-    (λ c. search sizing)
-    {- size-entry-requires -}
+    {- read-entry-requires -}
     (λ c κs. search sizing)
-    {- enum-told-2 -}
+    {- enum-known-len -}
     (λ c. search sizing)
-    {- returns-2 -}
-    (λ c. search sizing)
-    {- enum-known-j -}
-    (λ c. search sizing)
+    {- prefix-requires -}
+    (λ c κs. search sizing)
+    {- id-length-requires -}
+    (λ c κs. search sizing)
     {- add-n -}
-    (λ c. search sizing)
-    {- next-entry-requires -}
-    (λ c κs. search sizing)
-    {- enum-known-next -}
-    (λ c. search sizing)
-    {- enum-told-3 -}
-    (λ c. search sizing)
-    {- returns-3 -}
     (λ c. search sizing)
     {- loop-less -}
     (λ c. search sizing)
     {- loop-again -}
+    (λ c. search sizing)
+    {- enum-known-next -}
+    (λ c. search sizing)
+    {- loop-less-2 -}
+    (λ c. search sizing)
+    {- loop-again-2 -}
     (λ c. search sizing))

@@ -7,12 +7,14 @@ pub prepare-spec : {M : Type 1} → statement M
 prepare-spec =
     tie.close
     (tie.spec
-    {- is-bad-appid-requires -}
+    {- read-appid-requires -}
     (λ c κs. search preparing)
-    {- returns -}
+    {- enum-told -}
     (λ c. search preparing)
-    {- begins-https-requires -}
-    (λ c κs. search preparing)
+    {- enum-told-2 -}
+    (λ c. search preparing)
+    {- enum-known-end -}
+    (λ c. search preparing)
     {- select-requires -}
     (λ c κs. search preparing)
     {- enum-known-x -}
@@ -21,9 +23,11 @@ prepare-spec =
     (λ c. search preparing)
     {- find-owner-requires -}
     (λ c κs. search preparing)
-    {- enum-told -}
+    {- enum-told-3 -}
     (λ c. search preparing)
-    {- enum-known-start -}
+    {- enum-known-owner -}
+    (λ c. search preparing)
+    {- returns -}
     (λ c. search preparing)
     {- returns-2 -}
     (λ c. search preparing)

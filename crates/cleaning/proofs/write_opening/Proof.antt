@@ -1,5 +1,5 @@
 -- `cleaning::write_opening` meets its contract.
-use Rattle.cleaning.proofs.Laws.{writing}
+use Rattle.cleaning.proofs.Laws.{laws}
 use Rattle.cleaning.proofs.write_opening.Statement.{statement}
 use Rattle.cleaning.proofs.write_opening.Tie as tie
 
@@ -8,18 +8,18 @@ write-opening-spec =
     tie.close
     (tie.spec
     {- slice-aggregate-write-bytes -}
-    (λ c. search writing)
+    (λ c. search laws)
     {- write-bytes-requires -}
-    (λ c κs. search writing)
+    (λ c κs. search laws)
     {- same-length -}
-    (λ c. search writing)
+    (λ c. search laws)
     {- returns -}
-    (λ c. search writing)
+    (λ c. search laws)
     {- slice-aggregate-write-bytes-2 -}
-    (λ c. search writing)
+    (λ c. search laws)
     {- write-bytes-requires-2 -}
-    (λ c κs. search writing)
+    (λ c κs. search laws)
     {- same-length-2 -}
-    (λ c. search writing)
+    (λ c. search laws)
     {- returns-2 -}
-    (λ c. search writing))
+    (λ c. search laws))

@@ -9,29 +9,41 @@ before-list-spec =
     (tie.spec
     {- is-facet-requires -}
     (λ c κs. search stages)
-    {- is-bad-appid-requires -}
+    {- read-appid-requires -}
     (λ c κs. search stages)
+    {- enum-told -}
+    (λ c. search stages)
     {- returns -}
+    (λ c. search stages)
+    {- enum-told-2 -}
     (λ c. search stages)
     {- returns-2 -}
     (λ c. search stages)
-    {- begins-https-requires -}
-    (λ c κs. search stages)
-    {- same-host-requires -}
+    {- equal-requires -}
     (λ c κs. search stages)
     {- returns-3 -}
     (λ c. search stages)
-    {- fetching-requires -}
-    (λ c κs. search stages)
-    {- by-fetch-requires -}
-    (λ c κs. search stages)
     {- returns-4 -}
     (λ c. search stages)
-    {- equal-requires -}
+    {- enum-known-end -}
+    (λ c. search stages)
+    {- same-host-requires -}
     (λ c κs. search stages)
     {- returns-5 -}
+    (λ c. search stages)
+    {- fetching-requires -}
+    (λ c κs. search stages)
+    {- enum-known-x -}
+    (λ c. search stages)
+    {- enum-told-3 -}
+    (λ c. search stages)
+    {- enum-known-a -}
     (λ c. search stages)
     {- returns-6 -}
     (λ c. search stages)
     {- returns-7 -}
+    (λ c. search stages)
+    {- returns-8 -}
+    (λ c. search stages)
+    {- returns-9 -}
     (λ c. search stages))

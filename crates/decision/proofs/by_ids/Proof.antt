@@ -11,7 +11,7 @@ by-ids-spec =
     (λ c κs. search laws)
     {- enum-told -}
     (λ c. search laws)
-    {- enum-known-start -}
+    {- enum-known-owner -}
     (λ c. search laws)
     {- first-match-requires -}
     (λ c κs. search laws)

@@ -1,25 +1,20 @@
 -- What the answers of the code mean, in the terms of Answer, Decide and Location.
 use mathlib.Core.Path.{_≡_}
-use mathlib.Core.Bool.{Bool, true, false}
-use mathlib.Core.List.{List, [], _∷_}
-use mathlib.Core.Option.{Option, none, some, Option·getD}
-use Prim.Native.Nat.{ℕ, _+_, _-_, _≤_, _<_}
-use lib.ListN.{length, take, drop}
-use Rattle.ascii.specs.Ascii.{Bytes, isNone}
+use mathlib.Core.List.{List, []}
+use mathlib.Core.Option.{Option, none, some}
+use Prim.Native.Nat.{ℕ, _+_, _≤_, _<_}
+use lib.ListN.{length}
+use Rattle.ascii.specs.Ascii.{Bytes}
 use Rattle.suffix.specs.Suffix.{readTable}
-use Rattle.origin.specs.Matching.{facetMatches}
 use Rattle.origin.specs.code.Parts.{part}
-use Rattle.json_text.specs.Reader.{got}
-use Rattle.json_text.specs.Lexical.{readString}
-use Rattle.json_text.specs.code.Places.{readAt}
 use Rattle.refusals.specs.declared.Refusal.the-variants.{BadTable}
-use Rattle.trusted_list.specs.code.Slots.{idsAt}
 use Rattle.fetch_record.specs.Record.{Redirect}
 use Rattle.fetch_record.specs.code.Meaning.{answerOf as responseOf}
-use Rattle.causes.specs.Causes.{cause, kept}
-use Rattle.causes.specs.code.Owner.{Owns}
+use Rattle.fetch_record.specs.declared.item.Answer.{Answer as Response}
+use Rattle.entries.specs.Causes.{kept}
+use Rattle.entries.specs.code.Owner.{HostEnds}
 use Rattle.decision.specs.Answer.{Answer, rule1, rule2, rule3, rule4, fetch, refused}
-use Rattle.decision.specs.Decide.{Stage, settled, listDue, firstMatch, byPlace}
+use Rattle.decision.specs.Decide.{Stage, settled, listDue, beforeList, firstMatch, byPlace}
 use Rattle.decision.specs.Location.{Source, nowhere, theAppId, redirect}
 use Rattle.decision.specs.declared.Answer.{Answer as Given}
 use Rattle.decision.specs.declared.Answer.the-variants.{Rule1, Rule2, Rule3, Rule4, Fetch, Refused}
@@ -27,8 +22,6 @@ use Rattle.decision.specs.declared.Stage.{Stage as Standing}
 use Rattle.decision.specs.declared.Stage.the-variants.{Settled, ListDue}
 use Rattle.decision.specs.declared.Match.{Match}
 use Rattle.decision.specs.declared.Match.the-variants.{At as MatchAt, Nowhere}
-use Rattle.decision.specs.declared.Step.{Step}
-use Rattle.decision.specs.declared.Step.the-variants.{Matched, Goes}
 use Rattle.decision.specs.declared.Location.{Location}
 use Rattle.decision.specs.declared.Location.the-variants.{Nothing, AppId, Text}
 
@@ -44,41 +37,22 @@ answerOf (Refused r) = refused r
 
 unfoldable pub stageOf : Standing → Stage
 stageOf (Settled a) = settled (answerOf a)
-stageOf (ListDue r) = listDue (responseOf r)
+stageOf (ListDue r end) = listDue (responseOf r)
 
--- ---- the entries
+-- the AppID's host ends where the stage says
+pub data Hosted (appid : Bytes) : Standing → Type 0 where
+  settled-so : {a : Given} → Hosted appid (Settled a)
+  due-there : {r : Response} {end : ℕ} → HostEnds appid end → Hosted appid (ListDue r end)
 
--- the ids at a place are an array of strings
-pub record IdsThere (body : Bytes) (ids : ℕ) : Type 0 where
-  pub all : List Bytes
-  pub is : idsAt body ids ≡ some all
+pub record Before (caller appid items lent : Bytes) (r : Standing) : Type 0 where
+  pub is : stageOf r ≡ beforeList caller appid items lent
+  pub host : Hosted appid r
 
-unfoldable pub entriesAt : Bytes → ℕ → List Bytes
-entriesAt body ids = Option·getD (idsAt body ids) []
+-- ---- by the list
 
 unfoldable pub matchOf : Match → Option ℕ
 matchOf Nowhere = none
 matchOf (MatchAt n) = some n
-
--- the AppID's label stands in it between two places
-pub record Owned (appid table : Bytes) (start end : ℕ) (deeper : Bool) : Type 0 where
-  pub low : start ≤ end
-  pub high : end ≤ length appid
-  pub is : Owns appid table (take (end - start) (drop start appid)) deeper
-
--- one entry: it is kept and matches; it is kept, or not, and the next stands behind it
-pub data Passes (caller appid table entry : Bytes) (end : ℕ) : Step → Type 0 where
-  matches-it : isNone (cause appid table entry) ≡ true → facetMatches caller entry ≡ true → Passes caller appid table entry end Matched
-  is-kept : isNone (cause appid table entry) ≡ true → facetMatches caller entry ≡ false → Passes caller appid table entry end (Goes end 1)
-  is-dropped : isNone (cause appid table entry) ≡ false → Passes caller appid table entry end (Goes end 0)
-
--- the entry itself, for every AppID with this label
-pub record PartIs (caller table label : Bytes) (deeper : Bool) (entry : Bytes) (end : ℕ) (r : Step) : Type 0 where
-  pub is : (appid : Bytes) → Owns appid table label deeper → Passes caller appid table entry end r
-
--- the entry at a place
-pub record StepIs (caller table label : Bytes) (deeper : Bool) (body : Bytes) (at : ℕ) (r : Step) : Type 0 where
-  pub is : (appid entry : Bytes) (end : ℕ) → Owns appid table label deeper → readAt readString body at ≡ got entry end → Passes caller appid table entry end r
 
 -- the answer where the list is read: refusal 13, rule 4 or refusal 14
 unfoldable pub byEntries : Bytes → Bytes → Bytes → List Bytes → Answer

@@ -13,9 +13,11 @@ facets-clean-spec =
     (λ c. search cleanings)
     {- number-requires -}
     (λ c κs. search cleanings)
+    {- cast-t14 -}
+    (λ c. search cleanings)
     {- enum-known-n -}
     (λ c. search cleanings)
-    {- cast-t14 -}
+    {- cast-t15 -}
     (λ c. search cleanings)
     {- same-length -}
     (λ c. search cleanings)

@@ -24,8 +24,8 @@ facets-fetch-location-spec =
     {- cast-t13 -}
     (λ c. search locating)
     {- returns -}
-    (λ c. search locating)
+    (λ c. (search locating, (search locating, (search locating, (search locating, search locating)))))
     {- returns-2 -}
-    (λ c. search locating)
+    (λ c. (search locating, (search locating, (search locating, (search locating, search locating)))))
     {- returns-3 -}
-    (λ c. search locating))
+    (λ c. (search locating, (search locating, (search locating, (search locating, search locating))))))

@@ -2,7 +2,7 @@
 use Prim.Native.Nat.{_-_, _*_}
 use lib.ListN.{length}
 use Rattle.fetch_record.proofs.RecordLaws.{Counting}
-use Rattle.fetch_record.proofs.Laws.{record-laws}
+use Rattle.fetch_record.proofs.Laws.{more-laws, record-laws}
 use Rattle.fetch_record.proofs.count_redirects.Statement.{statement}
 use Rattle.fetch_record.proofs.count_redirects.Tie as tie
 
@@ -59,6 +59,6 @@ count-redirects-spec =
     {- loop-less -}
     (λ c. search record-laws)
     {- loop-again -}
-    (λ c. search record-laws)
+    (λ c. search more-laws)
     {- returns-6 -}
     (λ c. search record-laws))

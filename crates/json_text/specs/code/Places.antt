@@ -12,10 +12,6 @@ use Rattle.json_text.specs.declared.Next.{Next}
 use Rattle.json_text.specs.declared.Next.the-variants.{At, Bad}
 use Rattle.json_text.specs.declared.Point.{Point}
 use Rattle.json_text.specs.declared.Point.the-variants.{Code, Wrong}
-use Rattle.json_text.specs.declared.Number.{Number}
-use Rattle.json_text.specs.declared.Number.the-variants.{Is, Other}
-use Rattle.json_text.specs.declared.Decoded.{Decoded}
-use Rattle.json_text.specs.declared.Text.{Text}
 use Rattle.json_text.specs.declared.Progress.{Progress}
 use Rattle.json_text.specs.declared.Progress.the-variants.{On, Stuck}
 
@@ -31,10 +27,6 @@ unfoldable pub pointOf : Read ℕ → Point
 pointOf (got c j) = Code c j
 pointOf bad = Wrong
 
-unfoldable pub numberOf : Number → Option ℕ
-numberOf (Is n) = some n
-numberOf Other = none
-
 -- b is the byte at the place i; 256 where there is none
 pub record Peeked (s : Bytes) (i b : ℕ) : Type 0 where
   pub is : b ≡ peek (drop i s)
@@ -49,9 +41,9 @@ unfoldable pub contentOf : Read Bytes → Option Bytes
 contentOf (got t j) = fit t
 contentOf bad = none
 
--- the bytes that d holds
-unfoldable pub content : Decoded → Option Bytes
-content d = if d .long then none else if ltb 512 (d .len) then none else some (take (d .len) (d .bytes))
+-- the first n of these bytes; none: there are more than are held
+unfoldable pub held : Bytes → ℕ → Option Bytes
+held bytes n = if ltb 512 n then none else some (take n bytes)
 
 -- more bytes behind those that are held
 unfoldable pub push : Option Bytes → Bytes → Option Bytes
@@ -66,21 +58,12 @@ unfoldable pub isText : Option Bytes → Bytes → Bool
 isText none name = false
 isText (some t) name = same t name
 
--- the string at a place: what it holds, and the place behind it
-pub record Holds (held : Option Bytes) (place : Next) (r : Text) : Type 0 where
-  pub held-is : content (r .decoded) ≡ held
-  pub end-is : r .end ≡ place
-
 -- ---- while a string is decoded
-
--- the first n of these bytes; more than are held, where n is above 512
-abbrev pub held : Bytes → ℕ → Decoded
-held bytes n = record { bytes = bytes; len = n; long = false }
 
 -- x is put behind the n bytes that are held, in an array of 512: r bytes are held then
 pub record Puts (before : Bytes) (n : ℕ) (x : Bytes) (after : Bytes) (r : ℕ) : Type 0 where
   pub kept : length after ≡ length before
-  pub is : length before ≡ 512 → content (held after r) ≡ push (content (held before n)) x
+  pub is : length before ≡ 512 → held after r ≡ push (held before n) x
 
 -- the character that is read is put there, and the place behind it; or there is none
 pub data PutsRead (before : Bytes) (n : ℕ) (read : Read Bytes) (after : Bytes) : Progress → Type 0 where

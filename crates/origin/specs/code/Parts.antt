@@ -1,6 +1,6 @@
 -- What the code answers: where the parts of an identifier stand in it.
 use mathlib.Core.Path.{_≡_}
-use mathlib.Core.List.{_∷_, _++_}
+use mathlib.Core.List.{_++_}
 use mathlib.Core.Option.{Option, none, some}
 use mathlib.Core.Bool.{Bool, _||_}
 use Prim.Native.Nat.{ℕ, _+_, _-_, _≤_, _<_}

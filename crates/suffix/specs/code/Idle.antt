@@ -2,6 +2,7 @@
 use mathlib.Core.Path.{_≡_}
 use mathlib.Core.Bool.{Bool, true, _&&_, _||_}
 use Prim.Native.Nat.{ℕ, suc, _+_, _-_, _*_, _≤_, _<_, max}
+use Prim.Native.Char.{code}
 use lib.ListN.{length, take, drop, getD}
 use lib.Dec.{eqb, leb}
 use Rattle.ascii.specs.Ascii.{Bytes, if_then_else_, takeWhile, lastOf, splitAt, isDigit, isLetter, lowerByte}
@@ -20,8 +21,8 @@ use Rattle.suffix.specs.declared.skips.Stop.the-variants.{Host, Other}
 pub record Idle (host table : Bytes) (from to : ℕ) : Type 0 where
   pub onward : from ≤ to
   pub inside : to ≤ length table + 1
-  pub best : bestOf (labels host) (readLines (splitAt 10 (drop from table))) ≡ bestOf (labels host) (readLines (splitAt 10 (drop to table)))
-  pub depth : linesDepth (labels host) (splitAt 10 (drop from table)) ≡ linesDepth (labels host) (splitAt 10 (drop to table))
+  pub best : bestOf (labels host) (readLines (splitAt (code "\n") (drop from table))) ≡ bestOf (labels host) (readLines (splitAt (code "\n") (drop to table)))
+  pub depth : linesDepth (labels host) (splitAt (code "\n") (drop from table)) ≡ linesDepth (labels host) (splitAt (code "\n") (drop to table))
 
 -- the same for every host: comments and empty lines
 pub record Skipped (table : Bytes) (from to : ℕ) : Type 0 where
@@ -35,7 +36,7 @@ blockEnd s from = length (takeWhile inLine (take 64 (drop from s)))
 
 -- the place k of an LF, 64 of another byte
 unfoldable pub lfAt : ℕ → ℕ → ℕ
-lfAt k b = if eqb b 10 then k else 64
+lfAt k b = if eqb b (code "\n") then k else 64
 
 unfoldable pub lastByte : Bytes → ℕ
 lastByte s = getD s (length s - 1) 0
@@ -49,9 +50,9 @@ isAlphanumeric b = isLetter b || isDigit b
 unfoldable pub kindOf : ℕ → ℕ → ℕ
 kindOf last b =
     if isAlphanumeric b then (if eqb (lowerByte b) (lowerByte last) then 1 else 0) else
-    if eqb b 45 then 6 else
-    if eqb b 46 then 7 else
-    if eqb b 10 then 8 else
+    if eqb b (code "-") then 6 else
+    if eqb b (code ".") then 7 else
+    if eqb b (code "\n") then 8 else
     9
 
 -- a table of the kinds for a host
@@ -92,5 +93,5 @@ pub record Passes (kinds host table : Bytes) (d start from : ℕ) : Type 0 where
 pub record Shallow (host table : Bytes) (m d from to : ℕ) : Type 0 where
   pub onward : from ≤ to
   pub inside : to ≤ length table + 1
-  pub best : joinBest (Sizes 0 m) (bestOf (labels host) (readLines (splitAt 10 (drop from table)))) ≡ joinBest (Sizes 0 m) (bestOf (labels host) (readLines (splitAt 10 (drop to table))))
-  pub depth : max d (linesDepth (labels host) (splitAt 10 (drop from table))) ≡ max d (linesDepth (labels host) (splitAt 10 (drop to table)))
+  pub best : joinBest (Sizes 0 m) (bestOf (labels host) (readLines (splitAt (code "\n") (drop from table)))) ≡ joinBest (Sizes 0 m) (bestOf (labels host) (readLines (splitAt (code "\n") (drop to table))))
+  pub depth : max d (linesDepth (labels host) (splitAt (code "\n") (drop from table))) ≡ max d (linesDepth (labels host) (splitAt (code "\n") (drop to table)))

@@ -1,13 +1,13 @@
 -- What one pass over the table finds for a host: the most labels of a matching exception, and of any matching rule.
 use mathlib.Core.Path.{_≡_}
 use mathlib.Core.List.{List, [], _∷_}
-use mathlib.Core.Bool.{Bool, _&&_, _||_, not}
+use mathlib.Core.Bool.{Bool, _&&_, not}
 use mathlib.Core.Option.{Option, none, some}
 use Prim.Native.Nat.{ℕ, _-_, _≤_, max}
 use Prim.Native.Char.{code}
 use lib.ListN.{length, drop}
 use lib.Dec.{eqb, ltb}
-use Rattle.ascii.specs.Ascii.{Bytes, if_then_else_, _>>=_, filterBy}
+use Rattle.ascii.specs.Ascii.{Bytes, if_then_else_, filterBy}
 use Rattle.suffix.specs.Suffix.{Rule, isBlank, isSkipped, readRule, matches, privateLabel, orEmpty}
 use Rattle.suffix.specs.declared.Best.{Best}
 use Rattle.suffix.specs.declared.Best.the-variants.{Bad, Sizes}

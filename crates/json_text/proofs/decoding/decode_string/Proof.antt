@@ -1,18 +1,16 @@
 -- `json_text::decode_string` meets its contract.
 use Prim.Native.Nat.{_-_}
 use lib.ListN.{length}
-use Rattle.json_text.specs.Lexical.{readString}
-use Rattle.json_text.specs.code.Places.{readAt, placeOf, contentOf}
 use Rattle.json_text.proofs.Holding.{Decodes}
 use Rattle.json_text.proofs.Laws.{decoding-laws, fits}
 use Rattle.json_text.proofs.decoding.decode_string.Statement.{statement}
 use Rattle.json_text.proofs.decoding.decode_string.Tie as tie
 
 abbrev Inv-loop : tie.InvT-loop
-Inv-loop s from bytes₀ n₀ i₀ bytes n i = Decodes s (contentOf (readAt readString s from)) (placeOf (readAt readString s from)) bytes n i
+Inv-loop out₀ s from n₀ i₀ out n i = Decodes s from out₀ out n i
 
 abbrev μ-loop : tie.MeasureT-loop
-μ-loop s from bytes₀ n₀ i₀ bytes n i = length s - i
+μ-loop out₀ s from n₀ i₀ out n i = length s - i
 
 pub decode-string-spec : {M : Type 1} → statement M
 decode-string-spec =
@@ -22,8 +20,6 @@ decode-string-spec =
     μ-loop
     {- byte-at-requires -}
     (λ c κs. search fits)
-    {- no-text-requires -}
-    (λ c κs. search fits)
     {- returns -}
     (λ c. search decoding-laws)
     {- add-i -}
@@ -32,7 +28,7 @@ decode-string-spec =
     (λ c. search decoding-laws)
     {- byte-at-requires-2 -}
     (λ c κs. search fits)
-    {- add-t18 -}
+    {- add-t12 -}
     (λ c. search fits)
     {- returns-2 -}
     (λ c. search decoding-laws)
@@ -42,8 +38,6 @@ decode-string-spec =
     (λ c. search fits)
     {- enum-told -}
     (λ c. search fits)
-    {- no-text-requires-2 -}
-    (λ c κs. search fits)
     {- returns-3 -}
     (λ c. search decoding-laws)
     {- loop-less -}

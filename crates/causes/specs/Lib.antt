@@ -1,2 +1,0 @@
-pub mod Causes
-pub mod code

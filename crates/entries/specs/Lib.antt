@@ -1,0 +1,4 @@
+pub mod AppId
+pub mod Causes
+pub mod SameKept
+pub mod code

@@ -1,0 +1,169 @@
+// An entry of the selected list: read at its place, held by value, and judged; and the AppID, read once.
+use json_text::Next;
+use json_text::Progress;
+use origin::Reading;
+ghost use Rattle.entries.specs.code.Owner.{AppIdIs, OwnedBy, Differs, Judges};
+ghost use Rattle.entries.specs.code.Reading.{Decodes, Reads};
+
+// ---- the AppID
+
+// Refusal 2; or it does not begin `https://`; or it is an HTTPS URL whose host ends at a place.
+pub enum AppId {
+    Bad,
+    Foreign,
+    Url(usize),
+}
+
+// Where the AppID's private label begins and ends in it, empty where it has none; and whether a rule goes deeper than it.
+pub struct Owner {
+    pub start: usize,
+    pub end: usize,
+    pub deeper: bool,
+}
+
+pub enum AppOwner {
+    BadTable,
+    Is(Owner),
+}
+
+pub fn read_appid(appid: &[u8]) -> AppId
+    ensures { λ r. ⌜ AppIdIs (now (appid .entry)) r ⌝ }
+{
+    // document 01's bound for an AppID
+    if 2048 < appid.len() {
+        return AppId::Bad;
+    }
+    if origin::begins_https(appid) {
+        let Reading::Found(p) = origin::https_url(appid) else {
+            return AppId::Bad;
+        };
+        let end = p.end;
+        return AppId::Url(end);
+    }
+    AppId::Foreign
+}
+
+// One pass over the table for the AppID's own host, which stands behind `https://` up to its end.
+pub fn find_owner(appid: &[u8], end: usize, table: &[u8]) -> AppOwner
+    ensures { λ r. ⌜ OwnedBy (now (appid .entry)) end (now (table .entry)) r ⌝ }
+{
+    let host = ascii::part(appid, 8, end);
+    match suffix::find_owner(host, table) {
+        suffix::Owner::BadTable => AppOwner::BadTable,
+        suffix::Owner::Label(at, deeper) => {
+            let start = 8 + at;
+            AppOwner::Is(Owner { start, end, deeper })
+        }
+    }
+}
+
+// ---- causes
+
+// Causes 1 to 4.
+pub enum Cause {
+    TooLong,
+    OtherScheme,
+    NotFacet,
+    OtherLabel,
+}
+
+// Kept, or the first cause that holds.
+pub enum Verdict {
+    Kept,
+    Discarded(Cause),
+}
+
+// The host has no private label, or another one than the AppID. Only where a rule goes deeper than the AppID's label is
+// the table looked up.
+fn is_other_label(host: &[u8], label: &[u8], deeper: bool, table: &[u8]) -> bool
+    ensures { λ r. ⌜ Differs (now (table .entry)) (now (label .entry)) deeper (now (host .entry)) r ⌝ }
+{
+    if label.len() == 0 {
+        return true;
+    }
+    if deeper {
+        if suffix::has_label(host, label, table) {
+            return false;
+        }
+        return true;
+    }
+    if suffix::hosts::ends_at_label(host, label) {
+        return false;
+    }
+    true
+}
+
+// The first cause that holds of an entry, for the AppID with this label.
+fn judge(entry: &[u8], label: &[u8], deeper: bool, table: &[u8]) -> Verdict
+    ensures { λ r. ⌜ Judges (now (table .entry)) (now (label .entry)) deeper (now (entry .entry)) r ⌝ }
+{
+    // cause 1's bound
+    if 512 < entry.len() {
+        return Verdict::Discarded(Cause::TooLong);
+    }
+    if origin::begins_https(entry) {
+        let Reading::Found(p) = origin::web_origin(entry) else {
+            return Verdict::Discarded(Cause::NotFacet);
+        };
+        let end = p.end;
+        if is_other_label(&entry[8..end], label, deeper, table) {
+            return Verdict::Discarded(Cause::OtherLabel);
+        }
+        return Verdict::Kept;
+    }
+    if origin::begins_native(entry) {
+        if origin::is_native(entry) {
+            return Verdict::Kept;
+        }
+        return Verdict::Discarded(Cause::NotFacet);
+    }
+    Verdict::Discarded(Cause::OtherScheme)
+}
+
+// ---- an entry
+
+// It is kept, and so many bytes of it are held; or it is discarded. Then the place of the next one.
+pub enum Entry {
+    Kept(usize, Next),
+    Discarded(Cause, Next),
+}
+
+// The entry at a place, decoded; one without escapes is copied as it stands. A string that was read before stands there.
+fn decode_entry(out: &mut [u8; 512], body: &[u8], at: usize) -> Progress
+    ensures { λ r. ⌜ Decodes (now (body .entry)) at (now (out .entry)) (now (out .exit)) r ⌝ }
+{
+    let Next::At(q) = json_text::strings::plain_end(body, at) else {
+        return json_text::decoding::decode_string(out, body, at);
+    };
+    let from = at + 1;
+    let entry = &body[from..q];
+    origin::normal::write_bytes(entry, out, 0);
+    Progress::On(entry.len(), q + 1)
+}
+
+// The entry at a place of the selected list, for the AppID with this owner.
+pub fn read_entry(
+    out: &mut [u8; 512],
+    body: &[u8],
+    at: usize,
+    appid: &[u8],
+    owner: Owner,
+    table: &[u8],
+) -> Entry
+    ensures { λ r. ⌜ Reads (now (body .entry)) at (now (appid .entry)) owner (now (table .entry)) (now (out .entry)) (now (out .exit)) r ⌝ }
+{
+    let Progress::On(n, j) = decode_entry(out, body, at) else {
+        return Entry::Discarded(Cause::TooLong, Next::Bad);
+    };
+    let next = trusted_list::next_entry(body, j);
+    // more than are held: cause 1
+    if 512 < n {
+        return Entry::Discarded(Cause::TooLong, next);
+    }
+    let label = ascii::part(appid, owner.start, owner.end);
+    let entry = ascii::prefix(out, n);
+    match judge(entry, label, owner.deeper, table) {
+        Verdict::Kept => Entry::Kept(n, next),
+        Verdict::Discarded(c) => Entry::Discarded(c, next),
+    }
+}

@@ -1,0 +1,279 @@
+//! The library's source beside the hub's declarations, both as text: every export is declared, every
+//! declaration is an export, and names, parameters, fields, their order and their types are the same. Sizes
+//! and offsets as compiled are held in `src/ffi.rs`.
+
+const LIBRARY: &str = include_str!("../../../crates/facets/src/lib.rt");
+const DECLARED: &str = include_str!("../../src/ffi.rs");
+
+/// A call or a struct: its parameters or fields in order, each a name and a type, and what it returns.
+#[derive(Clone, Debug, PartialEq)]
+struct Item {
+    name: String,
+    parts: Vec<[String; 2]>,
+    result: String,
+}
+
+/// What one side says.
+#[derive(Clone, Debug, Default)]
+struct Side {
+    calls: Vec<Item>,
+    structs: Vec<Item>,
+    faults: Vec<String>,
+}
+
+// ---- reading
+
+/// The words and single signs of a source, without comments and blanks.
+fn tokens(source: &str) -> Vec<&str> {
+    let is_word = |sign: char| sign.is_alphanumeric() || sign == '_';
+    let mut all = Vec::new();
+    for line in source.lines() {
+        let mut rest = line.split("//").next().unwrap_or_default().trim_start();
+        while let Some(first) = rest.chars().next() {
+            let word = rest.find(|sign| !is_word(sign)).unwrap_or(rest.len());
+            let end = if is_word(first) { word } else { first.len_utf8() };
+            all.push(&rest[..end]);
+            rest = rest[end..].trim_start();
+        }
+    }
+    all
+}
+
+/// What stands behind each place where these words stand.
+fn behind<'a>(tokens: &'a [&'a str], words: &[&str]) -> Vec<&'a [&'a str]> {
+    let places = tokens.windows(words.len()).enumerate().filter(|(_, run)| *run == words);
+    places.map(|(at, _)| &tokens[at + words.len()..]).collect()
+}
+
+/// How often a word stands.
+fn count(tokens: &[&str], word: &str) -> usize {
+    tokens.iter().filter(|token| **token == word).count()
+}
+
+/// `NAME ( part, part )` or `NAME { part, part }`, then `-> RESULT` where something is returned.
+fn item(tokens: &[&str], close: &str) -> Item {
+    let end = tokens.iter().position(|token| *token == close).expect("an end");
+    let parts = tokens[2..end].split(|token| *token == ",").filter(|part| !part.is_empty());
+    let part = |part: &[&str]| {
+        let colon = part.iter().position(|token| *token == ":").expect("a name and a type");
+        [part[..colon].join(" "), part[colon + 1..].join(" ")]
+    };
+    let result = match tokens.get(end + 1..end + 4) {
+        Some(["-", ">", result]) => result,
+        _ => "nothing",
+    };
+    Item { name: tokens[0].to_owned(), parts: parts.map(part).collect(), result: result.to_owned() }
+}
+
+/// The structs laid out as C does; another one is a fault.
+fn structs(tokens: &[&str], side: &mut Side) {
+    let marked = behind(tokens, &["#", "[", "repr", "(", "C", ")", "]", "pub", "struct"]);
+    if marked.len() != count(tokens, "struct") {
+        side.faults.push("a struct without #[repr(C)]".to_owned());
+    }
+    side.structs = marked.into_iter().map(|tokens| item(tokens, "}")).map(without_results).collect();
+}
+
+fn without_results(item: Item) -> Item {
+    Item { result: String::new(), ..item }
+}
+
+/// What the library exports, its parameters as C passes them.
+fn library(source: &str) -> Side {
+    let (tokens, mut side) = (tokens(source), Side::default());
+    structs(&tokens, &mut side);
+    let marked = behind(&tokens, &["#", "[", "no_mangle", "]", "pub", "extern", "\"", "C", "\"", "fn"]);
+    if marked.len() != count(&tokens, "extern") || marked.len() != count(&tokens, "no_mangle") {
+        side.faults.push("an export without its marks".to_owned());
+    }
+    for tokens in marked {
+        let mut call = item(tokens, ")");
+        call.parts = call.parts.iter().flat_map(as_passed).collect();
+        side.calls.push(call);
+    }
+    side
+}
+
+/// A slice passes as a pointer and a length, a lent number as a pointer.
+fn as_passed([name, kind]: &[String; 2]) -> Vec<[String; 2]> {
+    let pointer = |kind: &str| [name.clone(), kind.to_owned()];
+    let length = || [format!("{name}_len"), "usize".to_owned()];
+    match kind.as_str() {
+        "& [ u8 ]" => vec![pointer("* const u8"), length()],
+        "& mut [ u8 ]" => vec![pointer("* mut u8"), length()],
+        "& mut u32" => vec![pointer("* mut u32")],
+        "u8" | "u16" | "u32" | "u64" | "usize" => vec![pointer(kind)],
+        _ => vec![pointer(&format!("{kind}, which the hub cannot pass"))],
+    }
+}
+
+/// What the hub declares.
+fn declared(source: &str) -> Side {
+    let (tokens, mut side) = (tokens(source), Side::default());
+    structs(&tokens, &mut side);
+    let blocks = behind(&tokens, &["extern", "\"", "C", "\"", "{"]);
+    if blocks.len() != count(&tokens, "extern") {
+        side.faults.push("an extern block that is not C's".to_owned());
+    }
+    for block in blocks {
+        let block = &block[..block.iter().position(|token| *token == "}").expect("an end")];
+        let calls = behind(block, &["pub", "fn"]);
+        if count(block, "#") != 0 || calls.len() != count(block, "fn") {
+            side.faults.push("a declaration with marks of its own".to_owned());
+        }
+        side.calls.extend(calls.into_iter().map(|tokens| item(tokens, ")")).map(with_pointers));
+    }
+    side
+}
+
+/// A lent number may be declared as a reference.
+fn with_pointers(mut call: Item) -> Item {
+    for [_, kind] in &mut call.parts {
+        if kind == "& mut u32" {
+            *kind = "* mut u32".to_owned();
+        }
+    }
+    call
+}
+
+// ---- comparing
+
+/// Every difference of the two sources.
+fn differences(rattle: &str, rust: &str) -> Vec<String> {
+    let (library, declared) = (library(rattle), declared(rust));
+    let mut all = [&library.faults[..], &declared.faults].concat();
+    all.extend(unlike(&library.calls, &declared.calls));
+    all.extend(unlike(&library.structs, &declared.structs));
+    all.extend(library.structs.iter().chain(&declared.structs).filter_map(free_bytes));
+    all
+}
+
+/// The items of one side that are missing on the other, stand twice, or are not the same there.
+fn unlike(library: &[Item], declared: &[Item]) -> Vec<String> {
+    let mut all = Vec::new();
+    for (items, others, side) in [(library, declared, "declared"), (declared, library, "exported")] {
+        for item in items {
+            match others.iter().filter(|other| other.name == item.name).collect::<Vec<_>>()[..] {
+                [other] if other == item => (),
+                [other] => all.push(format!("{item:?} is {side} as {other:?}")),
+                [] => all.push(format!("{} is not {side}", item.name)),
+                _ => all.push(format!("{} is {side} twice", item.name)),
+            }
+        }
+    }
+    all
+}
+
+/// A struct that C's layout leaves a free byte in: before a field, or at its end.
+fn free_bytes(item: &Item) -> Option<String> {
+    let size = |[_, kind]: &[String; 2]| match kind.as_str() {
+        "u8" => Some(1),
+        "u16" => Some(2),
+        "u32" => Some(4),
+        "u64" => Some(8),
+        _ => None,
+    };
+    let sizes = item.parts.iter().map(size).collect::<Option<Vec<usize>>>();
+    let filled = sizes.is_some_and(|sizes| {
+        let mut end = 0;
+        let close = sizes.iter().all(|size| {
+            end += size;
+            end % size == 0
+        });
+        close && sizes.iter().all(|size| end % size == 0)
+    });
+    (!filled).then(|| format!("{} has free bytes", item.name))
+}
+
+// ---- the tests
+
+#[test]
+fn the_declarations_are_the_exports() {
+    assert_eq!(differences(LIBRARY, DECLARED), [""; 0]);
+    let (library, declared) = (library(LIBRARY), declared(DECLARED));
+    assert_eq!((library.calls.len(), library.structs.len()), (6, 3));
+    assert_eq!((declared.calls.len(), declared.structs.len()), (6, 3));
+}
+
+/// Damages one text and expects this among the differences.
+fn damaged(text: &str, old: &str, new: &str, expected: &str) {
+    assert!(text.contains(old), "{old} is there to be damaged");
+    let other = text.replacen(old, new, 1);
+    let found = if text == LIBRARY { differences(&other, DECLARED) } else { differences(LIBRARY, &other) };
+    let meant = found.iter().any(|difference| difference.contains(expected));
+    assert!(meant, "{old} as {new}: {found:?}");
+}
+
+#[test]
+fn damaged_exports_are_seen() {
+    for (old, new, expected) in [
+        ("pub other_scheme: u32", "pub scheme: u32", "[\"pub scheme\", \"u32\"]"),
+        (
+            "pub start: u32,\n    pub len: u32,", "pub len: u32,\n    pub start: u32,",
+            "[\"pub len\", \"u32\"], [\"pub start\"",
+        ),
+        ("pub source: u32", "pub source: u8", "Location has free bytes"),
+        ("pub refusal: u32", "pub refusal: u16", "Cleaned has free bytes"),
+        ("pub refusal: u32,", "", "Cleaned\", parts: [[\"pub len\", \"u32\"]]"),
+        ("#[repr(C)]\npub struct Tally", "pub struct Tally", "a struct without #[repr(C)]"),
+        ("major: u16,\n    minor: u16,", "minor: u16,\n    major: u16,", "[\"minor\", \"u16\"], [\"major\""),
+        ("host: &[u8], table: &[u8]", "table: &[u8], host: &[u8]", "[\"table_len\", \"usize\"], [\"host\""),
+        ("major: u16,", "major: u32,", "[\"major\", \"u32\"]"),
+        ("place: &mut u32", "place: &mut u16", "which the hub cannot pass"),
+        ("out: &mut [u8]", "out: &[u8]", "[\"out\", \"* const u8\"]"),
+        ("],\n) -> u16", "],\n) -> u32", "result: \"u32\""),
+        (") -> Tally", ") -> Cleaned", "result: \"Cleaned\""),
+        ("fn facets_tally", "fn facets_count", "facets_tally is not exported"),
+        ("fn facets_tally", "fn facets_count", "facets_count is not declared"),
+        ("fn facets_decide_place", "fn facets_decide", "facets_decide is exported twice"),
+        ("#[no_mangle]", "", "an export without its marks"),
+        ("#[no_mangle]", "", "facets_private_label is not exported"),
+    ] {
+        damaged(LIBRARY, old, new, expected);
+    }
+}
+
+#[test]
+fn damaged_declarations_are_seen() {
+    for (old, new, expected) in [
+        ("pub too_long: u32", "pub long: u32", "[\"pub long\", \"u32\"]"),
+        ("pub refusal: u32", "pub refusal: u16", "[\"pub refusal\", \"u16\"]"),
+        ("#[repr(C)]\npub struct Cleaned", "pub struct Cleaned", "Cleaned is not declared"),
+        ("host_len: usize,", "host_len: u32,", "[\"host_len\", \"u32\"]"),
+        ("host_len: usize,", "", "facets_private_label"),
+        ("major: u16,\n            minor: u16,", "minor: u16,\n            major: u16,", "\"minor\""),
+        ("place: *mut u32", "place: *mut u16", "[\"place\", \"* mut u16\"]"),
+        ("out: *mut u8", "out: *const u8", "[\"out\", \"* const u8\"]"),
+        (") -> u32;", ") -> u16;", "result: \"u16\""),
+        (") -> u32;", ");", "result: \"nothing\""),
+        ("pub fn facets_clean", "pub fn facets_wash", "facets_clean is not declared"),
+        ("pub fn facets_clean", "pub fn facets_wash", "facets_wash is not exported"),
+        ("pub fn facets_clean", "pub fn facets_decide", "facets_decide is declared twice"),
+        ("pub fn facets_tally", "#[link_name = \"x\"]\n pub fn facets_tally", "marks of its own"),
+        ("extern \"C\" {", "extern \"Rust\" {", "an extern block that is not C's"),
+        ("extern \"C\" {", "extern \"Rust\" {", "facets_decide is not declared"),
+    ] {
+        damaged(DECLARED, old, new, expected);
+    }
+}
+
+#[test]
+fn a_lent_number_may_be_declared_as_a_reference() {
+    let other = DECLARED.replacen("place: *mut u32", "place: &mut u32", 1);
+    assert_ne!(other, DECLARED);
+    assert_eq!(differences(LIBRARY, &other), [""; 0]);
+}
+
+#[test]
+fn free_bytes_are_seen() {
+    let of = |kinds: &[&str]| {
+        let parts = kinds.iter().map(|kind| ["x".to_owned(), (*kind).to_owned()]).collect();
+        free_bytes(&Item { name: "It".to_owned(), parts, result: String::new() }).is_some()
+    };
+    for filled in [&["u32", "u32"][..], &["u16", "u16", "u32"], &["u64", "u32", "u32"], &["u8"]] {
+        assert!(!of(filled), "{filled:?}");
+    }
+    for free in [&["u16", "u32"][..], &["u32", "u16"], &["u8", "u32"], &["u64", "u32"], &["Tally"]] {
+        assert!(of(free), "{free:?}");
+    }
+}
