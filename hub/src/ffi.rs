@@ -33,16 +33,17 @@ pub struct Tally {
     pub other_label: u32,
 }
 
-/// Holds that no byte of a struct is free: its fields, all of them, stand one behind another and fill it.
+/// Holds that a struct has so many bytes and none of them is free: its fields, all of them, stand one behind
+/// another and fill it.
 macro_rules! no_free_byte {
-    ($name:ident { $($field:ident: $width:ty),+ }) => {
+    ($bytes:literal, $name:ident { $($field:ident: $width:ty),+ }) => {
         const _: () = {
             let mut at = 0;
             $(
                 assert!(offset_of!($name, $field) == at);
                 at += size_of::<$width>();
             )+
-            assert!(at == size_of::<$name>());
+            assert!(at == $bytes && size_of::<$name>() == $bytes);
         };
         const _: fn($name) = |$name { $($field),+ }| {
             $(let _: $width = $field;)+
@@ -50,16 +51,12 @@ macro_rules! no_free_byte {
     };
 }
 
-no_free_byte!(Location { source: u32, start: u32, len: u32 });
-no_free_byte!(Cleaned { refusal: u32, len: u32 });
-no_free_byte!(Tally {
-    refusal: u32,
-    kept: u32,
-    too_long: u32,
-    other_scheme: u32,
-    not_facet: u32,
-    other_label: u32
-});
+no_free_byte!(12, Location { source: u32, start: u32, len: u32 });
+no_free_byte!(8, Cleaned { refusal: u32, len: u32 });
+no_free_byte!(
+    24,
+    Tally { refusal: u32, kept: u32, too_long: u32, other_scheme: u32, not_facet: u32, other_label: u32 }
+);
 
 mod c {
     use super::Location;

@@ -1,15 +1,16 @@
 -- The sets of laws that answer needs.
 use borrow.Author.Needs.{needs}
-use Rattle.cleaning.proofs.SizeLaws.{fits-first, fits-later, id-first, id-later, size-starts, size-over, skip-less, size-skip, keep-less, keep-short, size-fits, size-keep}
-use Rattle.cleaning.proofs.WriteLaws.{opening-first, opening-later, id-wrote, write-starts, write-over, pass-less, write-pass, add-less, write-size, write-add}
+use Rattle.entries.proofs.Walks.{end-less}
+use Rattle.cleaning.proofs.SizeLaws.{fits-first, fits-later, id-first, id-later, size-starts, size-over, size-less, size-skip, keep-short, size-fits, size-keep}
+use Rattle.cleaning.proofs.WriteLaws.{opening-first, opening-later, id-wrote, write-starts, write-over, write-less, write-pass, write-size, write-add}
 use Rattle.cleaning.proofs.PrepareLaws.{prepare-bad, prepare-foreign, prepare-list, prepare-table, prepare-listed, prepared-listed}
 use Rattle.cleaning.proofs.ListLaws.{digits-inside, digits-length, digits-few, digits-wrote, head-wrote, room-owned, room-there, room-short, room-body, room-told, sum-first, sum-second, sum-third, list-full, head-room, ids-room, list-done, clean-refused, clean-listed}
 
 pub ruleset laws = (fits-first, fits-later, id-first, id-later, opening-first, opening-later, id-wrote, needs)
 
-pub ruleset sizing = (size-starts, size-over, skip-less, size-skip, keep-less, keep-short, size-fits, size-keep, needs)
+pub ruleset sizing = (size-starts, size-over, size-less, end-less, size-skip, keep-short, size-fits, size-keep, needs)
 
-pub ruleset write-loop = (write-starts, write-over, pass-less, write-pass, add-less, write-size, write-add, needs)
+pub ruleset write-loop = (write-starts, write-over, write-less, end-less, write-pass, write-size, write-add, needs)
 
 pub ruleset preparing = (prepare-bad, prepare-foreign, prepare-list, prepare-table, prepare-listed, needs)
 

@@ -2,7 +2,6 @@
 use mathlib.Core.Path.{_≡_, refl, sym, ap, _∙_}
 use mathlib.Core.Bool.{Bool, true, false}
 use mathlib.Core.List.{List, [], _∷_, _++_, map}
-use mathlib.Core.Option.{none, some}
 use Prim.Native.Nat.{ℕ, suc, _+_, _*_, _≤_, _<_}
 use native.Mathlib.Omega.{arith}
 use mir.Syntax.{w64}
@@ -16,14 +15,14 @@ use Rattle.origin.proofs.NormalForms.{normal-short}
 use Rattle.json_text.specs.declared.Next.{Next}
 use Rattle.json_text.specs.declared.Next.the-variants.{At, Bad}
 use Rattle.trusted_list.specs.code.Entries.{firstEntry}
-use Rattle.entries.specs.Causes.{cause, kept}
+use Rattle.entries.specs.Causes.{kept}
 use Rattle.entries.specs.code.Owner.{Owned}
 use Rattle.entries.specs.code.Reading.{Reads, IdsThere, entriesAt, left}
 use Rattle.entries.specs.declared.Cause.{Cause}
 use Rattle.entries.specs.declared.Owner.{Owner}
 use Rattle.entries.specs.declared.Entry.{Entry}
-use Rattle.entries.specs.declared.Entry.the-variants.{Kept, Discarded}
-use Rattle.entries.proofs.Walks.{kept-more, kept-less, kept-none, Walk, walk-starts, Turn, Holds, walk-over, turn-kept, turn-discarded}
+use Rattle.entries.specs.declared.Verdict.the-variants.{Kept, Discarded}
+use Rattle.entries.proofs.Walks.{kept-none, Walk, walk-starts, walk-over, Turn, turn, next-less, kept-held, kept-first, dropped-first}
 use Rattle.cleaning.specs.Clean.{quoted}
 use Rattle.cleaning.specs.code.Meaning.{names, opening, idText, idsText}
 
@@ -47,13 +46,15 @@ unfolding idText opening
 id-length true x = omega (arith, length-append x (text "\""))
 id-length false x = omega (arith, length-append x (text "\""))
 
-pub names-more : (appid table e : Bytes) (es : List Bytes) → cause appid table e ≡ none → names appid table (e ∷ es) ≡ normalForm e ∷ names appid table es
-unfolding names
-names-more appid table e es h = ap (map normalForm) (kept-more appid table e es h)
+-- the normal forms, over one entry
+module _ {appid : Bytes} {o : Owner} {table body after : Bytes} {turns : ℕ} {es : List Bytes} {r : Entry} (T : Turn appid o table body after turns es r) where
+  pub names-more : r .verdict ≡ Kept → names appid table es ≡ normalForm (T .entry) ∷ names appid table (T .rest)
+  unfolding names
+  names-more g = ap (map normalForm) (kept-first T g)
 
-pub names-less : (appid table e : Bytes) (es : List Bytes) {c : Cause} → cause appid table e ≡ some c → names appid table (e ∷ es) ≡ names appid table es
-unfolding names
-names-less appid table e es h = ap (map normalForm) (kept-less appid table e es h)
+  pub names-less : {c : Cause} → r .verdict ≡ Discarded c → names appid table es ≡ names appid table (T .rest)
+  unfolding names
+  names-less g = ap (map normalForm) (dropped-first T g)
 
 pub names-none : (appid table : Bytes) → names appid table [] ≡ []
 unfolding names
@@ -104,57 +105,46 @@ module _ {appid : Bytes} {o : Owner} {table body : Bytes} {goal : ℕ} {held : B
       omega arith
 
   module _ {i : ℕ} (h : at ≡ At i) {after : Bytes} {r : Entry} (R : Reads body i appid o table held after r) where
-    module _ {c : Cause} {next : Next} (g : r ≡ Discarded c next) where
-      D : Turn appid o table body after (S .turns) at (S .es) next (λ e. cause appid table e ≡ some c)
-      D = turn-discarded (S .walk) h R g
+    T : Turn appid o table body after (S .turns) (S .es) r
+    T = turn (S .walk) h R
 
-      pub skip-less : left body next < left body at
-      skip-less = D .less
+    pub size-less : left body (r .next) < left body at
+    size-less = next-less (S .walk) h R
 
-      pub size-skip : Sizes appid o table body goal after next n
-      size-skip = record {
-        turns = suc (S .turns);
-        short = S .short;
-        small = omega (arith, S .small);
-        es = D .rest;
-        walk = D .walk;
-        is = ap (λ (l : List Bytes). n + length (idsText (eqb n 0) l)) (sym (names-less appid table (D .entry) (D .rest) (D .is)) ∙ ap (names appid table) (sym (D .whole))) ∙ S .is;
-      }
+    pub size-skip : {c : Cause} → r .verdict ≡ Discarded c → Sizes appid o table body goal after (r .next) n
+    size-skip g = record {
+      turns = suc (S .turns);
+      short = S .short;
+      small = omega (arith, S .small);
+      es = T .rest;
+      walk = T .walk;
+      is = ap (λ (l : List Bytes). n + length (idsText (eqb n 0) l)) (sym (names-less T g)) ∙ S .is;
+    }
 
-    module _ {k : ℕ} {next : Next} (g : r ≡ Kept k next) where
-      K : Turn appid o table body after (S .turns) at (S .es) next (Holds appid table after k)
-      K = turn-kept (S .walk) h R g
+    module _ {p : Bytes} (E : p ≡ take (r .len) after) where
+      pub keep-short : length p ≤ 512
+      keep-short = rw E (simp length-take (omega (arith, T .walk .room)))
 
-      pub keep-less : left body next < left body at
-      keep-less = K .less
+      module _ (g : r .verdict ≡ Kept) {m : ℕ} (M : m ≡ length (idText (eqb n 0) (normalForm p))) where
+        few : m ≤ 515
+        few = omega (arith, id-short (eqb n 0) p keep-short)
 
-      module _ {p : Bytes} (E : p ≡ take k after) where
-        pub keep-short : length p ≤ 512
-        keep-short = rw E (simp length-take (omega (arith, K .walk .room)))
+        pub size-fits : Fits w64 (n + m)
+        size-fits = record { fits = omega (arith, S .small, T .some-left, S .short, few) }
 
-        module _ {m : ℕ} (M : m ≡ length (idText (eqb n 0) (normalForm p))) where
-          few : m ≤ 515
-          few = omega (arith, id-short (eqb n 0) p keep-short)
+        pub size-keep : Sizes appid o table body goal after (r .next) (n + m)
+        size-keep = record { turns = suc (S .turns); short = S .short; small = omega (arith, S .small, few); es = T .rest; walk = T .walk; is = is }
+          where
+            t : Bytes
+            t = idText (eqb n 0) (normalForm (T .entry))
 
-          pub size-fits : Fits w64 (n + m)
-          size-fits = record { fits = omega (arith, S .small, K .some-left, S .short, few) }
+            from-here : n + length (t ++ idsText false (names appid table (T .rest))) ≡ goal
+            from-here = ap (λ (l : Bytes). n + length l) (sym (ids-more (eqb n 0) (normalForm (T .entry)) (names appid table (T .rest))) ∙ ap (idsText (eqb n 0)) (sym (names-more T g))) ∙ S .is
 
-          pub size-keep : Sizes appid o table body goal after next (n + m)
-          size-keep = record { turns = suc (S .turns); short = S .short; small = omega (arith, S .small, few); es = K .rest; walk = K .walk; is = is }
-            where
-              t : Bytes
-              t = idText (eqb n 0) (normalForm (K .entry))
+            is-long : m ≡ length t
+            is-long = M ∙ ap (λ (x : Bytes). length (idText (eqb n 0) (normalForm x))) (E ∙ kept-held T g)
 
-              from-here : n + length (t ++ idsText false (names appid table (K .rest))) ≡ goal
-              from-here =
-                  ap (λ (l : Bytes). n + length l)
-                  (sym (ids-more (eqb n 0) (normalForm (K .entry)) (names appid table (K .rest))) ∙ ap (idsText (eqb n 0)) (sym (names-more appid table (K .entry) (K .rest) (K .is .no-cause)) ∙ ap (names appid table) (sym (K .whole))))
-                  ∙ S .is
-
-              is-long : m ≡ length t
-              is-long = M ∙ ap (λ (x : Bytes). length (idText (eqb n 0) (normalForm x))) (E ∙ K .is .is)
-
-              is : n + m + length (idsText (eqb (n + m) 0) (names appid table (K .rest))) ≡ goal
-              is =
-                  let z : eqb (n + m) 0 ≡ false = ne-eqb (n + m) 0 (λ w. omega (arith, is-long, id-some (eqb n 0) (normalForm (K .entry)))) in
-                  rw z (omega (arith, from-here, is-long, length-append t (idsText false (names appid table (K .rest)))))
+            is : n + m + length (idsText (eqb (n + m) 0) (names appid table (T .rest))) ≡ goal
+            is =
+                let z : eqb (n + m) 0 ≡ false = ne-eqb (n + m) 0 (λ w. omega (arith, is-long, id-some (eqb n 0) (normalForm (T .entry)))) in
+                rw z (omega (arith, from-here, is-long, length-append t (idsText false (names appid table (T .rest)))))

@@ -2,7 +2,6 @@
 use mathlib.Core.Path.{_≡_, refl, sym, ap, _∙_}
 use mathlib.Core.Bool.{Bool, true, false}
 use mathlib.Core.List.{List, [], _∷_, _++_, append-assoc, append-nil}
-use mathlib.Core.Option.{none, some}
 use Prim.Native.Nat.{ℕ, suc, _+_, _≤_, _<_}
 use native.Mathlib.Omega.{arith}
 use lib.Dec.{eqb}
@@ -15,14 +14,13 @@ use Rattle.origin.proofs.Writings.{nothing-wrote, wrote-place, wrote-length, wr
 use Rattle.json_text.specs.declared.Next.{Next}
 use Rattle.json_text.specs.declared.Next.the-variants.{At, Bad}
 use Rattle.trusted_list.specs.code.Entries.{firstEntry}
-use Rattle.entries.specs.Causes.{cause}
 use Rattle.entries.specs.code.Owner.{Owned}
 use Rattle.entries.specs.code.Reading.{Reads, IdsThere, entriesAt, left}
 use Rattle.entries.specs.declared.Cause.{Cause}
 use Rattle.entries.specs.declared.Owner.{Owner}
 use Rattle.entries.specs.declared.Entry.{Entry}
-use Rattle.entries.specs.declared.Entry.the-variants.{Kept, Discarded}
-use Rattle.entries.proofs.Walks.{Walk, walk-starts, Turn, Holds, walk-over, turn-kept, turn-discarded}
+use Rattle.entries.specs.declared.Verdict.the-variants.{Kept, Discarded}
+use Rattle.entries.proofs.Walks.{Walk, walk-starts, walk-over, Turn, turn, next-less, kept-held}
 use Rattle.cleaning.specs.code.Meaning.{names, opening, idText, idsText, IdWrote}
 use Rattle.cleaning.proofs.SizeLaws.{ids-more, ids-none, id-some, names-none, names-more, names-less}
 
@@ -88,61 +86,52 @@ module _ {appid : Bytes} {o : Owner} {table body goal : Bytes} {begin : ℕ} {be
       rw (← x) (S .wrote)
 
   module _ {i : ℕ} (h : at ≡ At i) {after : Bytes} {r : Entry} (R : Reads body i appid o table held after r) where
-    module _ {c : Cause} {next : Next} (g : r ≡ Discarded c next) where
-      D : Turn appid o table body after (S .turns) at (S .es) next (λ e. cause appid table e ≡ some c)
-      D = turn-discarded (S .walk) h R g
+    T : Turn appid o table body after (S .turns) (S .es) r
+    T = turn (S .walk) h R
 
-      pub pass-less : left body next < left body at
-      pass-less = D .less
+    pub write-less : left body (r .next) < left body at
+    write-less = next-less (S .walk) h R
 
-      pub write-pass : Written appid o table body goal begin before out after next to
-      write-pass = record {
-        kept = S .kept;
-        room = S .room;
-        done = S .done;
-        wrote = S .wrote;
-        turns = suc (S .turns);
-        es = D .rest;
-        walk = D .walk;
-        is = ap (λ (l : List Bytes). S .done ++ idsText (eqb to begin) l) (sym (names-less appid table (D .entry) (D .rest) (D .is)) ∙ ap (names appid table) (sym (D .whole))) ∙ S .is;
-      }
+    pub write-pass : {c : Cause} → r .verdict ≡ Discarded c → Written appid o table body goal begin before out after (r .next) to
+    write-pass g = record {
+      kept = S .kept;
+      room = S .room;
+      done = S .done;
+      wrote = S .wrote;
+      turns = suc (S .turns);
+      es = T .rest;
+      walk = T .walk;
+      is = ap (λ (l : List Bytes). S .done ++ idsText (eqb to begin) l) (sym (names-less T g)) ∙ S .is;
+    }
 
-    module _ {k : ℕ} {next : Next} (g : r ≡ Kept k next) where
-      K : Turn appid o table body after (S .turns) at (S .es) next (Holds appid table after k)
-      K = turn-kept (S .walk) h R g
+    module _ (g : r .verdict ≡ Kept) {p : Bytes} (E : p ≡ take (r .len) after) {out₁ : Bytes} {m : ℕ} (W : IdWrote (eqb to begin) p to out out₁ m) where
+      abbrev t : Bytes
+      t = idText (eqb to begin) (normalForm (T .entry))
 
-      pub add-less : left body next < left body at
-      add-less = K .less
+      whole : (S .done ++ t) ++ idsText false (names appid table (T .rest)) ≡ goal
+      whole =
+          append-assoc (S .done) t (idsText false (names appid table (T .rest)))
+          ∙ ap (λ (z : Bytes). S .done ++ z) (sym (ids-more (eqb to begin) (normalForm (T .entry)) (names appid table (T .rest))) ∙ ap (idsText (eqb to begin)) (sym (names-more T g)))
+          ∙ S .is
 
-      module _ {p : Bytes} (E : p ≡ take k after) {out₁ : Bytes} {m : ℕ} (W : IdWrote (eqb to begin) p to out out₁ m) where
-        abbrev t : Bytes
-        t = idText (eqb to begin) (normalForm (K .entry))
+      room : begin + length (S .done) + length t ≤ length before
+      room = omega (arith, S .room, ap length whole, length-append (S .done ++ t) (idsText false (names appid table (T .rest))), length-append (S .done) t)
 
-        whole : (S .done ++ t) ++ idsText false (names appid table (K .rest)) ≡ goal
-        whole =
-            append-assoc (S .done) t (idsText false (names appid table (K .rest)))
-            ∙ ap (λ (z : Bytes). S .done ++ z)
-            (sym (ids-more (eqb to begin) (normalForm (K .entry)) (names appid table (K .rest))) ∙ ap (idsText (eqb to begin)) (sym (names-more appid table (K .entry) (K .rest) (K .is .no-cause)) ∙ ap (names appid table) (sym (K .whole))))
-            ∙ S .is
+      place : to ≡ begin + length (S .done)
+      place = wrote-place (S .wrote) (omega (arith, room))
 
-        room : begin + length (S .done) + length t ≤ length before
-        room = omega (arith, S .room, ap length whole, length-append (S .done ++ t) (idsText false (names appid table (K .rest))), length-append (S .done) t)
+      it : Wrote t to out out₁ m
+      it =
+          let x : p ≡ T .entry = E ∙ kept-held T g in
+          rw x at (W .is (rw x (omega (arith, room, place, S .kept))))
 
-        place : to ≡ begin + length (S .done)
-        place = wrote-place (S .wrote) (omega (arith, room))
+      more : Wrote (S .done ++ t) begin before out₁ m
+      more = wrote-then (S .wrote) it room
 
-        it : Wrote t to out out₁ m
-        it =
-            let x : p ≡ K .entry = E ∙ K .is .is in
-            rw x at (W .is (rw x (omega (arith, room, place, S .kept))))
+      pub write-size : length out₁ ≡ length before
+      write-size = wrote-length more (omega (arith, room, length-append (S .done) t))
 
-        more : Wrote (S .done ++ t) begin before out₁ m
-        more = wrote-then (S .wrote) it room
-
-        pub write-size : length out₁ ≡ length before
-        write-size = wrote-length more (omega (arith, room, length-append (S .done) t))
-
-        pub write-add : Written appid o table body goal begin before out₁ after next m
-        write-add =
-            let d : eqb m begin ≡ false = ne-eqb m begin (λ z. omega (arith, wrote-place more (omega (arith, room, length-append (S .done) t)), length-append (S .done) t, id-some (eqb to begin) (normalForm (K .entry)))) in
-            record { kept = write-size; room = S .room; done = S .done ++ t; wrote = more; turns = suc (S .turns); es = K .rest; walk = K .walk; is = rw d whole }
+      pub write-add : Written appid o table body goal begin before out₁ after (r .next) m
+      write-add =
+          let d : eqb m begin ≡ false = ne-eqb m begin (λ z. omega (arith, wrote-place more (omega (arith, room, length-append (S .done) t)), length-append (S .done) t, id-some (eqb to begin) (normalForm (T .entry)))) in
+          record { kept = write-size; room = S .room; done = S .done ++ t; wrote = more; turns = suc (S .turns); es = T .rest; walk = T .walk; is = rw d whole }

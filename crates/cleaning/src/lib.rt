@@ -1,8 +1,8 @@
 // Cleaning: what is refused, the length of the list, its bytes.
 use entries::AppId;
 use entries::AppOwner;
-use entries::Entry;
 use entries::Owner;
+use entries::Verdict;
 use json_text::Decoded;
 use json_text::Next;
 use refusals::Refusal;
@@ -74,15 +74,15 @@ fn ids_length(appid: &[u8], owner: Owner, body: &[u8], ids: usize, table: &[u8])
         let Next::At(i) = at else {
             return n;
         };
-        match entries::read_entry(&mut d.bytes, body, i, appid, owner, table) {
-            Entry::Kept(len, next) => {
-                d.len = len;
+        let e = entries::read_entry(&mut d.bytes, body, i, appid, owner, table);
+        d.len = e.len;
+        at = e.next;
+        let verdict = e.verdict;
+        match verdict {
+            Verdict::Kept => {
                 n += id_length(n == 0, ascii::prefix(&d.bytes, d.len));
-                at = next;
             }
-            Entry::Discarded(_, next) => {
-                at = next;
-            }
+            Verdict::Discarded(_) => {}
         }
     }
 }
@@ -131,15 +131,15 @@ fn write_ids(
         let Next::At(i) = at else {
             return to;
         };
-        match entries::read_entry(&mut d.bytes, body, i, appid, owner, table) {
-            Entry::Kept(len, next) => {
-                d.len = len;
+        let entry = entries::read_entry(&mut d.bytes, body, i, appid, owner, table);
+        d.len = entry.len;
+        at = entry.next;
+        let verdict = entry.verdict;
+        match verdict {
+            Verdict::Kept => {
                 to = write_id(to == begin, ascii::prefix(&d.bytes, d.len), out, to);
-                at = next;
             }
-            Entry::Discarded(_, next) => {
-                at = next;
-            }
+            Verdict::Discarded(_) => {}
         }
     }
 }
@@ -179,6 +179,7 @@ fn has_room(
     let n = ids_length(appid, owner, body, ids, table);
     let a = decimal_length(major);
     let b = decimal_length(minor);
+    // 56 bytes of the head beside its two numbers, and 4 of the end
     n + a + b + 60 <= room
 }
 

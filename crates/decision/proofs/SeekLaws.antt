@@ -13,14 +13,14 @@ use Rattle.origin.specs.Matching.{facetMatches}
 use Rattle.json_text.specs.declared.Next.{Next}
 use Rattle.json_text.specs.declared.Next.the-variants.{At, Bad}
 use Rattle.trusted_list.specs.code.Entries.{firstEntry}
-use Rattle.entries.specs.Causes.{cause, kept}
+use Rattle.entries.specs.Causes.{kept}
 use Rattle.entries.specs.code.Owner.{Owned}
 use Rattle.entries.specs.code.Reading.{Reads, IdsThere, entriesAt, left}
 use Rattle.entries.specs.declared.Cause.{Cause}
 use Rattle.entries.specs.declared.Owner.{Owner}
 use Rattle.entries.specs.declared.Entry.{Entry}
-use Rattle.entries.specs.declared.Entry.the-variants.{Kept, Discarded}
-use Rattle.entries.proofs.Walks.{kept-more, kept-less, kept-none, Walk, walk-starts, Turn, Holds, walk-over, turn-kept, turn-discarded}
+use Rattle.entries.specs.declared.Verdict.the-variants.{Kept, Discarded}
+use Rattle.entries.proofs.Walks.{kept-none, Walk, walk-starts, walk-over, Turn, turn, next-less, kept-held, kept-first, dropped-first}
 use Rattle.decision.specs.Decide.{firstMatch}
 use Rattle.decision.specs.code.Meaning.{matchOf}
 use Rattle.decision.specs.declared.Match.the-variants.{At as MatchAt, Nowhere}
@@ -70,52 +70,45 @@ module _ {caller appid : Bytes} {o : Owner} {table body : Bytes} {goal : Option 
   seek-over h = rw (walk-over (S .walk) h, no-match caller appid table) at (S .is)
 
   module _ {i : ℕ} (h : at ≡ At i) {after : Bytes} {r : Entry} (R : Reads body i appid o table held after r) where
-    module _ {c : Cause} {next : Next} (g : r ≡ Discarded c next) where
-      D : Turn appid o table body after (S .turns) at (S .es) next (λ e. cause appid table e ≡ some c)
-      D = turn-discarded (S .walk) h R g
+    T : Turn appid o table body after (S .turns) (S .es) r
+    T = turn (S .walk) h R
 
-      pub skip-less : left body next < left body at
-      skip-less = D .less
+    pub seek-less : left body (r .next) < left body at
+    seek-less = next-less (S .walk) h R
 
-      pub seek-skip : Seeks caller appid o table body goal after next n
-      seek-skip = record {
-        sized = S .sized;
-        turns = suc (S .turns);
-        small = omega (arith, S .small);
-        es = D .rest;
-        walk = D .walk;
-        is = ap (λ (l : List Bytes). plus n (firstMatch caller l)) (sym (kept-less appid table (D .entry) (D .rest) (D .is)) ∙ ap (kept appid table) (sym (D .whole))) ∙ S .is;
-      }
+    pub seek-skip : {c : Cause} → r .verdict ≡ Discarded c → Seeks caller appid o table body goal after (r .next) n
+    seek-skip g = record {
+      sized = S .sized;
+      turns = suc (S .turns);
+      small = omega (arith, S .small);
+      es = T .rest;
+      walk = T .walk;
+      is = ap (λ (l : List Bytes). plus n (firstMatch caller l)) (sym (dropped-first T g)) ∙ S .is;
+    }
 
-    module _ {k : ℕ} {next : Next} (g : r ≡ Kept k next) where
-      K : Turn appid o table body after (S .turns) at (S .es) next (Holds appid table after k)
-      K = turn-kept (S .walk) h R g
-
-      pub keep-less : left body next < left body at
-      keep-less = K .less
-
+    module _ (g : r .verdict ≡ Kept) where
       pub keep-fits : Fits w64 (n + 1)
-      keep-fits = record { fits = omega (arith, S .small, S .sized, K .some-left) }
+      keep-fits = record { fits = omega (arith, S .small, S .sized, T .some-left) }
 
-      module _ {p : Bytes} (E : p ≡ take k after) {m : Bool} (M : m ≡ facetMatches caller p) where
-        told : facetMatches caller (K .entry) ≡ m
-        told = sym (M ∙ ap (facetMatches caller) (E ∙ K .is .is))
+      module _ {p : Bytes} (E : p ≡ take (r .len) after) {m : Bool} (M : m ≡ facetMatches caller p) where
+        told : facetMatches caller (T .entry) ≡ m
+        told = sym (M ∙ ap (facetMatches caller) (E ∙ kept-held T g))
 
-        from-here : plus n (firstMatch caller (K .entry ∷ kept appid table (K .rest))) ≡ goal
-        from-here = ap (λ (l : List Bytes). plus n (firstMatch caller l)) (sym (kept-more appid table (K .entry) (K .rest) (K .is .no-cause)) ∙ ap (kept appid table) (sym (K .whole))) ∙ S .is
+        from-here : plus n (firstMatch caller (T .entry ∷ kept appid table (T .rest))) ≡ goal
+        from-here = ap (λ (l : List Bytes). plus n (firstMatch caller l)) (sym (kept-first T g)) ∙ S .is
 
         pub seek-found : m ≡ true → matchOf (MatchAt n) ≡ goal
         unfolding matchOf plus
         seek-found t =
             let x : n + 0 ≡ n = omega arith in
-            ap some (sym x) ∙ (rw (first-here caller (K .entry) (kept appid table (K .rest)) (told ∙ t)) at from-here)
+            ap some (sym x) ∙ (rw (first-here caller (T .entry) (kept appid table (T .rest)) (told ∙ t)) at from-here)
 
-        pub seek-keep : m ≡ false → Seeks caller appid o table body goal after next (n + 1)
+        pub seek-keep : m ≡ false → Seeks caller appid o table body goal after (r .next) (n + 1)
         seek-keep t = record {
           sized = S .sized;
           turns = suc (S .turns);
           small = omega (arith, S .small);
-          es = K .rest;
-          walk = K .walk;
-          is = sym (plus-next n (firstMatch caller (kept appid table (K .rest)))) ∙ ap (plus n) (sym (first-later caller (K .entry) (kept appid table (K .rest)) (told ∙ t))) ∙ from-here;
+          es = T .rest;
+          walk = T .walk;
+          is = sym (plus-next n (firstMatch caller (kept appid table (T .rest)))) ∙ ap (plus n) (sym (first-later caller (T .entry) (kept appid table (T .rest)) (told ∙ t))) ∙ from-here;
         }

@@ -1,8 +1,8 @@
 // The decision and the fetch location.
 use entries::AppId;
 use entries::AppOwner;
-use entries::Entry;
 use entries::Owner;
+use entries::Verdict;
 use fetch_record::Outcome;
 use fetch_record::Target;
 use json_text::Decoded;
@@ -98,18 +98,18 @@ fn first_match(
         let Next::At(i) = at else {
             return Match::Nowhere;
         };
-        match entries::read_entry(&mut d.bytes, body, i, appid, owner, table) {
-            Entry::Kept(len, next) => {
-                d.len = len;
+        let e = entries::read_entry(&mut d.bytes, body, i, appid, owner, table);
+        d.len = e.len;
+        at = e.next;
+        let verdict = e.verdict;
+        match verdict {
+            Verdict::Kept => {
                 if origin::matches(caller, ascii::prefix(&d.bytes, d.len)) {
                     return Match::At(n);
                 }
                 n += 1;
-                at = next;
             }
-            Entry::Discarded(_, after) => {
-                at = after;
-            }
+            Verdict::Discarded(_) => {}
         }
     }
 }

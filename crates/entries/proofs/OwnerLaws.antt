@@ -1,6 +1,6 @@
 -- The AppID, read once; its label, found once, settles cause 4 for every entry.
 use mathlib.Core.Path.{_≡_, refl, sym, ap, _∙_}
-use mathlib.Core.Bool.{Bool, true, false}
+use mathlib.Core.Bool.{Bool, true, false, _||_}
 use mathlib.Core.List.{[], _∷_}
 use mathlib.Core.Option.{Option, none, some}
 use Prim.Native.Nat.{ℕ, zero, suc, _+_, _-_, _≤_, _<_, _^_}
@@ -9,8 +9,9 @@ use mir.Syntax.{w64}
 use mir.Val.{Fits}
 use lib.ListN.{length, take, drop, length-drop, length-take}
 use lib.Seq.{drop-drop, take-nil}
-use borrow.Author.Tests.{lt-ltb, le-ltb}
-use Rattle.ascii.specs.Ascii.{Bytes, _>>=_, isNone}
+use lib.Dec.{leb, ltb}
+use borrow.Author.Tests.{lt-ltb, le-ltb, leb-true}
+use Rattle.ascii.specs.Ascii.{Bytes, if_then_else_, _>>=_, isNone}
 use Rattle.suffix.specs.Host.{isHost}
 use Rattle.suffix.specs.code.Place.{endsAtLabel}
 use Rattle.suffix.specs.Suffix.{readTable, privateLabel, orEmpty}
@@ -20,7 +21,7 @@ use Rattle.suffix.specs.declared.Owner.{Owner}
 use Rattle.suffix.specs.declared.Owner.the-variants.{BadTable as Unread, Label as LabelOf}
 use Rattle.suffix.proofs.Speed.{one-label}
 use Rattle.suffix.proofs.Owned.{label-some}
-use Rattle.origin.specs.Origin.{Authority, beginsHttps, httpsUrl}
+use Rattle.origin.specs.Origin.{Authority, beginsHttps, readHttps, isTail, httpsUrl}
 use Rattle.origin.specs.code.Parts.{part, authorityIn, Reads}
 use Rattle.origin.specs.declared.Parts.{Parts}
 use Rattle.origin.specs.declared.Reading.{Reading}
@@ -34,6 +35,19 @@ use Rattle.entries.specs.declared.AppOwner.the-variants.{BadTable, Is}
 
 -- ---- the AppID
 
+or-true : (t : Bool) → (t || true) ≡ true
+or-true true = refl
+or-true false = refl
+
+-- an HTTPS URL has at most 2,048 bytes
+url-short : (a : Bytes) {u : Authority} → httpsUrl a ≡ some u → ltb 2048 (length a) ≡ false
+unfolding httpsUrl
+url-short a {u} e = go (readHttps a >>= λ x. if isTail (x .tail) then some x else none) (leb (length a) 2048) refl e
+  where
+    go : (o : Option Authority) (t : Bool) → leb (length a) 2048 ≡ t → (if t then o else none) ≡ some u → ltb 2048 (length a) ≡ false
+    go o true f e = le-ltb 2048 (length a) (leb-true (length a) 2048 f)
+    go o false f e = let z : _≡_ {A = ℕ} 0 1 = cc in absurd (omega arith)
+
 module _ (a : Bytes) where
   pub appid-long : {n : ℕ} → n < length a → 2048 ≤ n → AppIdIs a Bad
   appid-long h k = is-bad (go (omega arith))
@@ -41,31 +55,34 @@ module _ (a : Bytes) where
       go : 2048 < length a → isBadAppId a ≡ true
       go h = unfold isBadAppId in (rw (lt-ltb 2048 (length a) h))
 
-  module _ (l : length a ≤ 2048) {b : Bool} (g : b ≡ beginsHttps a) where
-    pub appid-other : b ≡ false → AppIdIs a Foreign
-    appid-other h = is-foreign (go h) (sym g ∙ h)
+  module _ {b : Bool} (g : b ≡ beginsHttps a) where
+    pub appid-other : length a ≤ 2048 → b ≡ false → AppIdIs a Foreign
+    appid-other l h = is-foreign (go l h) (sym g ∙ h)
       where
-        go : b ≡ false → isBadAppId a ≡ false
-        go h = unfold isBadAppId in (rw (le-ltb 2048 (length a) l, sym g ∙ h))
+        go : length a ≤ 2048 → b ≡ false → isBadAppId a ≡ false
+        go l h = unfold isBadAppId in (rw (le-ltb 2048 (length a) l, sym g ∙ h))
 
     module _ (h : b ≡ true) {q : Reading} (R : Reads a (httpsUrl a) q) where
       pub appid-no-url : q ≡ Malformed → AppIdIs a Bad
       appid-no-url n = is-bad (go (is-none R n))
         where
           go : none ≡ httpsUrl a → isBadAppId a ≡ true
-          go e = unfold isBadAppId in (rw (le-ltb 2048 (length a) l, sym g ∙ h, ← e))
+          go e = unfold isBadAppId in (rw (sym g ∙ h, ← e) (or-true (ltb 2048 (length a))))
 
       pub appid-url : {p : Parts} → q ≡ Found p → AppIdIs a (Url (p .end))
       appid-url {p} f = go (found R f)
         where
           go : Reads a (httpsUrl a) (Found p) → AppIdIs a (Url (p .end))
-          go F = is-url good (sym g ∙ h) (record { is = own })
+          go F = is-url good (sym g ∙ h) (record { url = found-url; is = is; host = refl })
             where
-              good : isBadAppId a ≡ false
-              good = unfold isBadAppId authorityIn in (rw (le-ltb 2048 (length a) l, sym g ∙ h, ← F .is))
+              found-url : Authority
+              found-url = record { host = part a 8 (p .end); port = part a (p .end + 1) (p .tail); tail = drop (p .tail) a }
 
-              own : (table : Bytes) → appLabel table a ≡ privateLabel table (part a 8 (p .end))
-              own table = unfold appLabel authorityIn in (rw (← F .is))
+              is : httpsUrl a ≡ some found-url
+              is = sym (F .is) ∙ unfold authorityIn in refl
+
+              good : isBadAppId a ≡ false
+              good = unfold isBadAppId in (rw (url-short a is, sym g ∙ h, is))
 
 -- ---- its owner
 
@@ -116,8 +133,14 @@ module _ (s : Bytes) (end : ℕ) (table : Bytes) {host : Bytes} {w : Owner} (O :
             (let f : end - (8 + i) ≡ end - 8 - i = omega arith in
             rw (f, H, drop-taken i (end - 8) (drop 8 s), drop-drop))
 
+        at-host : {l : Bytes} → l ≡ part s 8 end → privateLabel table host ≡ privateLabel table l
+        at-host e = unfold part in (ap (privateLabel table) (H ∙ sym e))
+
         own : HostEnds s end → privateLabel table host ≡ appLabel table s
-        own E = unfold part in (ap (privateLabel table) H ∙ sym (E .is table))
+        own E = at-host (E .host) ∙ sym (of-url E)
+          where
+            of-url : (E : HostEnds s end) → appLabel table s ≡ privateLabel table (E .url .host)
+            of-url E = unfold appLabel in (rw (E .is))
 
 -- ---- cause 4 of one host
 

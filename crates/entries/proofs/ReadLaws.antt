@@ -16,7 +16,7 @@ use Rattle.origin.specs.code.Parts.{part, writtenAt, Wrote}
 use Rattle.origin.proofs.Writings.{wrote-is, wrote-length}
 use Rattle.json_text.specs.Reader.{Read, got, bad}
 use Rattle.json_text.specs.Lexical.{readString}
-use Rattle.json_text.specs.code.Places.{readAt, fit, held, push, Puts, PutsRead, is-on, is-stuck}
+use Rattle.json_text.specs.code.Places.{readAt, fit, held, content, push, Puts, PutsRead, is-on, is-stuck}
 use Rattle.json_text.specs.code.PlainString.{Within, in-text, no-place, Plain, is-plain, is-other, PlainIs}
 use Rattle.json_text.specs.declared.Next.{Next}
 use Rattle.json_text.specs.declared.Next.the-variants.{At, Bad}
@@ -25,13 +25,12 @@ use Rattle.json_text.specs.declared.Progress.the-variants.{On, Stuck}
 use Rattle.trusted_list.specs.code.Entries.{nextEntry}
 use Rattle.entries.specs.Causes.{cause}
 use Rattle.entries.specs.code.Owner.{Owns, Owned, Judges, causeOf}
-use Rattle.entries.specs.code.Reading.{Decodes, EntryIs, is-kept, is-discarded, Reads}
-use Rattle.entries.specs.declared.Cause.{Cause}
+use Rattle.entries.specs.code.Reading.{Decodes, Reads}
 use Rattle.entries.specs.declared.Cause.the-variants.{TooLong}
 use Rattle.entries.specs.declared.Owner.{Owner}
 use Rattle.entries.specs.declared.Verdict.{Verdict}
-use Rattle.entries.specs.declared.Verdict.the-variants.{Kept, Discarded}
-use Rattle.entries.specs.declared.Entry.the-variants.{Kept as IsKept, Discarded as IsDiscarded}
+use Rattle.entries.specs.declared.Verdict.the-variants.{Discarded}
+use Rattle.entries.specs.declared.Entry.{Entry}
 
 -- ---- decoded
 
@@ -113,7 +112,7 @@ fit-none e h = go (leb (length e) 512) refl h
     go true f h = let z : _≡_ {A = ℕ} 0 1 = cc in absurd (omega arith)
     go false f h = leb-false (length e) 512 f
 
-fit-some : (e : Bytes) {t : Bytes} → some t ≡ fit e → t ≡ e
+pub fit-some : (e : Bytes) {t : Bytes} → some t ≡ fit e → t ≡ e
 unfolding fit
 fit-some e {t} h = go (leb (length e) 512) h
   where
@@ -126,7 +125,7 @@ puts-fit : {before e after : Bytes} {n : ℕ} → length before ≡ 512 → Puts
 puts-fit {before} {e} w P = P .is w ∙ unfold held push in refl
 
 module _ (body : Bytes) (at : ℕ) (appid : Bytes) (o : Owner) (table : Bytes) {before after : Bytes} {r : Progress} (D : Decodes body at before after r) where
-  pub read-wrong : {x : Cause} {y : Next} → r ≡ Stuck → Reads body at appid o table before after (IsDiscarded x y)
+  pub read-wrong : {x : Entry} → r ≡ Stuck → Reads body at appid o table before after x
   read-wrong h = record { size = λ e j f. absurd (go (D .is e j f) h); is = λ w O e j f. absurd (go (D .is e j f) h) }
     where
       go : {r : Progress} {e : Bytes} {j : ℕ} → PutsRead before 0 (got e j) after r → r ≡ Stuck → ⊥
@@ -147,42 +146,35 @@ module _ (body : Bytes) (at : ℕ) (appid : Bytes) (o : Owner) (table : Bytes) {
             (sym x ∙ sym z, rw (u, ← v) b)
         go (is-stuck a) h = let z : _≡_ {A = ℕ} 0 1 = cc in absurd (omega arith)
 
-    next-is : (e : Bytes) (j : ℕ) → readAt readString body at ≡ got e j → y ≡ nextEntry body j
-    next-is e j f = N ∙ ap (nextEntry body) (read-here e j f .0)
+    held-fit : length before ≡ 512 → (e : Bytes) (j : ℕ) → readAt readString body at ≡ got e j → held after n ≡ fit e
+    held-fit w e j f = puts-fit w (read-here e j f .1)
 
-    pub read-over : {m : ℕ} → m < n → 512 ≤ m → Reads body at appid o table before after (IsDiscarded TooLong y)
-    read-over l k = record { size = λ e j f. read-here e j f .1 .kept; is = λ w O e j f. is-discarded (too-long e (fit-none e (over ∙ puts-fit w (read-here e j f .1)))) (next-is e j f) }
+    -- held, and judged by v
+    read-so : {v : Verdict} → (length before ≡ 512 → Owned appid table o → (e : Bytes) → held after n ≡ fit e → causeOf v ≡ cause appid table e)
+        → Reads body at appid o table before after (record { len = n; verdict = v; next = y })
+    read-so C = record {
+      size = λ e j f. read-here e j f .1 .kept;
+      is = λ w O e j f. record { content-is = as-held e (held-fit w e j f); cause-is = C w O e (held-fit w e j f); next-is = N ∙ ap (nextEntry body) (read-here e j f .0) };
+    }
+      where
+        as-held : (e : Bytes) → held after n ≡ fit e → content (record { bytes = after; len = n }) ≡ fit e
+        as-held e x = unfold content in x
+
+    pub read-over : {m : ℕ} → m < n → 512 ≤ m → Reads body at appid o table before after (record { len = n; verdict = Discarded TooLong; next = y })
+    read-over l k = read-so (λ w O e x. too-long e (fit-none e (held-over (omega arith) ∙ x)))
       where
         held-over : 512 < n → none ≡ held after n
         held-over m = unfold held in (rw (lt-ltb 512 n m))
 
-        over : none ≡ held after n
-        over = held-over (omega arith)
+        too-long : (e : Bytes) → 512 < length e → causeOf (Discarded TooLong) ≡ cause appid table e
+        too-long e m = unfold cause causeOf in (rw (lt-ltb 512 (length e) m))
 
-        too-long : (e : Bytes) → 512 < length e → cause appid table e ≡ some TooLong
-        too-long e m = unfold cause in (rw (lt-ltb 512 (length e) m))
+    pub read-judged : {p label : Bytes} {v : Verdict} → n ≤ 512 → p ≡ take n after → label ≡ take (o .end - o .start) (drop (o .start) appid) → Judges table label (o .deeper) p v
+        → Reads body at appid o table before after (record { len = n; verdict = v; next = y })
+    read-judged {label} l E L J = read-so (λ w O e x. J .is appid (owns O) ∙ ap (cause appid table) (E ∙ fit-some e (some-held l ∙ x)))
+      where
+        some-held : n ≤ 512 → some (take n after) ≡ held after n
+        some-held l = unfold held in (rw (le-ltb 512 n l))
 
-    module _ (l : n ≤ 512) {p label : Bytes} (E : p ≡ take n after) (L : label ≡ take (o .end - o .start) (drop (o .start) appid)) {v : Verdict} (J : Judges table label (o .deeper) p v) where
-      held-is : length before ≡ 512 → (e : Bytes) (j : ℕ) → readAt readString body at ≡ got e j → take n after ≡ e
-      held-is w e j f = fit-some e (some-held ∙ puts-fit w (read-here e j f .1))
-        where
-          some-held : some (take n after) ≡ held after n
-          some-held = unfold held in (rw (le-ltb 512 n l))
-
-      owns : Owned appid table o → Owns appid table label (o .deeper)
-      owns O = rw L (unfold part in (O .is))
-
-      judged : length before ≡ 512 → Owned appid table o → (e : Bytes) (j : ℕ) → readAt readString body at ≡ got e j → causeOf v ≡ cause appid table e
-      judged w O e j f = J .is appid (owns O) ∙ ap (cause appid table) (E ∙ held-is w e j f)
-
-      pub read-kept : v ≡ Kept → Reads body at appid o table before after (IsKept n y)
-      read-kept g = record {
-        size = λ e j f. read-here e j f .1 .kept;
-        is = λ w O e j f. is-kept (sym (judged w O e j f) ∙ unfold causeOf in (rw g)) (held-is w e j f) (next-is e j f);
-      }
-
-      pub read-discarded : {c : Cause} → v ≡ Discarded c → Reads body at appid o table before after (IsDiscarded c y)
-      read-discarded {c} g = record {
-        size = λ e j f. read-here e j f .1 .kept;
-        is = λ w O e j f. is-discarded {c = c} (sym (judged w O e j f) ∙ unfold causeOf in (rw g)) (next-is e j f);
-      }
+        owns : Owned appid table o → Owns appid table label (o .deeper)
+        owns O = rw L (unfold part in (O .is))

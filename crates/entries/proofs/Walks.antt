@@ -5,13 +5,13 @@ use mathlib.Core.List.{List, [], _∷_}
 use mathlib.Core.Option.{Option, none, some}
 use Prim.Native.Nat.{ℕ, suc, _+_, _-_, _≤_, _<_}
 use native.Mathlib.Omega.{arith}
-use lib.Dec.{eqb}
+use lib.Dec.{eqb, ltb, leb}
 use lib.ListN.{length, take, drop}
-use borrow.Author.Tests.{eqb-true, eqb-false}
+use borrow.Author.Tests.{eqb-true, eqb-false, ltb-false, le-leb}
 use Rattle.ascii.specs.Ascii.{Bytes, if_then_else_, isNone, filterBy, text}
 use Rattle.json_text.specs.Reader.{Read, got, bad, _>>=_, _>>_, oneOf, peek}
 use Rattle.json_text.specs.Lexical.{readString}
-use Rattle.json_text.specs.code.Places.{readAt}
+use Rattle.json_text.specs.code.Places.{readAt, fit, held, content}
 use Rattle.json_text.specs.declared.Next.{Next}
 use Rattle.json_text.specs.declared.Next.the-variants.{At, Bad}
 use Rattle.json_text.proofs.Steps.{peek-in, one-yes, one-no, no-fall, is-one, not-one, found}
@@ -20,12 +20,14 @@ use Rattle.trusted_list.specs.code.Entries.{toNext, firstEntry, nextEntry, Comi
 use Rattle.trusted_list.proofs.MemberLaws.{bound}
 use Rattle.trusted_list.proofs.EntryLaws.{entries-come}
 use Rattle.entries.specs.Causes.{cause, kept}
-use Rattle.entries.specs.code.Owner.{Owned}
-use Rattle.entries.specs.code.Reading.{EntryIs, is-kept, is-discarded, Reads, IdsThere, entriesAt, left}
+use Rattle.entries.specs.code.Owner.{Owned, causeOf}
+use Rattle.entries.specs.code.Reading.{EntryIs, Reads, IdsThere, entriesAt, left}
 use Rattle.entries.specs.declared.Cause.{Cause}
+use Rattle.entries.specs.declared.Verdict.the-variants.{Kept, Discarded}
 use Rattle.entries.specs.declared.Owner.{Owner}
 use Rattle.entries.specs.declared.Entry.{Entry}
-use Rattle.entries.specs.declared.Entry.the-variants.{Kept, Discarded}
+use Rattle.entries.proofs.Tellings.{entries-of}
+use Rattle.entries.proofs.KeptTests.{isKept, kept-passes}
 
 -- ---- places
 
@@ -101,10 +103,6 @@ nothing-comes : {s : Bytes} {q : Next} {es : List Bytes} → Coming s q es → q
 nothing-comes over h = refl
 nothing-comes (comes r c) h = let z : _≡_ {A = ℕ} 0 1 = cc in absurd (omega arith)
 
-pub entries-at : (s : Bytes) (ids : ℕ) (T : IdsThere s ids) → entriesAt s ids ≡ T .all
-unfolding entriesAt
-entries-at s ids T = rw (T .is)
-
 -- ---- kept entries
 
 module _ (appid table e : Bytes) (es : List Bytes) where
@@ -136,74 +134,93 @@ left-small body (At i) = omega arith
 
 pub walk-starts : (appid : Bytes) (o : Owner) (table body held : Bytes) (ids : ℕ) {at : Next} → Owned appid table o → IdsThere body ids → length held ≡ 512 → at ≡ firstEntry body ids
     → Walk appid o table body held 0 at (entriesAt body ids)
-walk-starts appid o table body held ids {at} O T w e = record { owned = O; room = w; few = omega (arith, left-small body at); coming = rw (e, entries-at body ids T) (entries-come body ids (T .is)) }
+walk-starts appid o table body held ids {at} O T w e = record { owned = O; room = w; few = omega (arith, left-small body at); coming = rw (e, entries-of body ids (T .is)) (entries-come body ids (T .is)) }
 
 -- a turn over an entry: what it was, and the walk behind it
-pub record Turn (appid : Bytes) (o : Owner) (table body after : Bytes) (turns : ℕ) (at : Next) (es : List Bytes) (next : Next) (P : Bytes → Type 0) : Type 0 where
+pub record Turn (appid : Bytes) (o : Owner) (table body after : Bytes) (turns : ℕ) (es : List Bytes) (r : Entry) : Type 0 where
   pub entry : Bytes
   pub rest : List Bytes
   pub whole : es ≡ entry ∷ rest
-  pub is : P entry
-  pub walk : Walk appid o table body after (suc turns) next rest
-  pub less : left body next < left body at
+  pub content-is : content (record { bytes = after; len = r .len }) ≡ fit entry
+  pub cause-is : causeOf (r .verdict) ≡ cause appid table entry
+  pub walk : Walk appid o table body after (suc turns) (r .next) rest
   pub some-left : turns < length body
-
--- a kept entry is held
-pub record Holds (appid table held : Bytes) (n : ℕ) (e : Bytes) : Type 0 where
-  pub no-cause : cause appid table e ≡ none
-  pub is : take n held ≡ e
 
 module _ {appid : Bytes} {o : Owner} {table body held : Bytes} {turns : ℕ} {at : Next} {es : List Bytes} (W : Walk appid o table body held turns at es) where
   pub walk-over : at ≡ Bad → es ≡ []
   walk-over h = nothing-comes (W .coming) h
 
-  module _ {i : ℕ} (h : at ≡ At i) {after : Bytes} {r : Entry} (R : Reads body i appid o table held after r) where
+  module _ {i : ℕ} (h : at ≡ At i) where
     C : Comes body i es
     C = comes-at (W .coming) h
 
-    here : EntryIs appid table body (C .entry) (C .end) after r
-    here = R .is (W .room) (W .owned) (C .entry) (C .end) (C .read)
+    S : Spans body i (C .end)
+    S = string-spans body i (C .read)
 
     falls : {next : Next} → next ≡ nextEntry body (C .end) → left body next < left body at
     falls {next} e = rw h (go next e)
       where
-        S : Spans body i (C .end)
-        S = string-spans body i (C .read)
-
         go : (next : Next) → next ≡ nextEntry body (C .end) → left body next < left body (At i)
         go Bad e = unfold left in omega arith
         go (At k) e = unfold left in omega (arith, S .ahead, S .inside, next-ahead body (C .end) e refl)
 
-    few-left : turns < length body
-    few-left = let l : left body at ≡ suc (length body - i) = rw h (unfold left in refl) in omega (arith, W .few, string-spans body i (C .read) .inside)
+    module _ {after : Bytes} {r : Entry} (R : Reads body i appid o table held after r) where
+      here : EntryIs appid table body (C .entry) (C .end) after r
+      here = R .is (W .room) (W .owned) (C .entry) (C .end) (C .read)
 
-    turned : {next : Next} {P : Bytes → Type 0} → next ≡ nextEntry body (C .end) → P (C .entry) → Turn appid o table body after turns at es next P
-    turned e p = record {
-      entry = C .entry;
-      rest = C .rest;
-      whole = C .whole;
-      is = p;
-      walk = record { owned = W .owned; room = R .size (C .entry) (C .end) (C .read) ∙ W .room; few = omega (arith, W .few, falls e); coming = rw e (C .later) };
-      less = falls e;
-      some-left = few-left;
-    }
+      pub next-less : left body (r .next) < left body at
+      next-less = falls (here .next-is)
 
-    pub turn-kept : {n : ℕ} {next : Next} → r ≡ Kept n next → Turn appid o table body after turns at es next (Holds appid table after n)
-    turn-kept {n} {next} g = go here g
+      pub turn : Turn appid o table body after turns es r
+      turn =
+          let l : left body at ≡ suc (length body - i) = rw h (unfold-left i) in
+          record {
+            entry = C .entry;
+            rest = C .rest;
+            whole = C .whole;
+            content-is = here .content-is;
+            cause-is = here .cause-is;
+            walk = record { owned = W .owned; room = R .size (C .entry) (C .end) (C .read) ∙ W .room; few = omega (arith, W .few, next-less); coming = rw (here .next-is) (C .later) };
+            some-left = omega (arith, W .few, S .inside);
+          }
+        where
+          unfold-left : (i : ℕ) → left body (At i) ≡ suc (length body - i)
+          unfold-left i = unfold left in refl
+
+-- the end of the list is nearer than any place
+pub end-less : (body : Bytes) {at : Next} {i : ℕ} → at ≡ At i → left body Bad < left body at
+unfolding left
+end-less body h = rw h (omega arith)
+
+-- ---- what a turn tells of its entry
+
+module _ {appid : Bytes} {o : Owner} {table body after : Bytes} {turns : ℕ} {es : List Bytes} {r : Entry} (T : Turn appid o table body after turns es r) where
+  -- it is kept, and this is it
+  module _ (h : r .verdict ≡ Kept) where
+    pub kept-none-fits : cause appid table (T .entry) ≡ none
+    kept-none-fits = sym (T .cause-is) ∙ unfold causeOf in (rw h)
+
+    pub kept-held : take (r .len) after ≡ T .entry
+    kept-held = go (fit (T .entry)) refl (T .content-is)
       where
-        go : {r : Entry} → EntryIs appid table body (C .entry) (C .end) after r → r ≡ Kept n next → Turn appid o table body after turns at es next (Holds appid table after n)
-        go (is-kept {n = m} {next = k} a b c) g =
-            let x : m ≡ n = cc in
-            let y : k ≡ next = cc in
-            turned (sym y ∙ c) (record { no-cause = a; is = rw x at b })
-        go (is-discarded a b) g = let z : _≡_ {A = ℕ} 0 1 = cc in absurd (omega arith)
+        small : cause appid table (T .entry) ≡ none → length (T .entry) ≤ 512
+        small e = ltb-false 512 (length (T .entry)) (kept-passes appid table (T .entry) (unfold isKept in (rw e)) .short)
 
-    pub turn-discarded : {c : Cause} {next : Next} → r ≡ Discarded c next → Turn appid o table body after turns at es next (λ e. cause appid table e ≡ some c)
-    turn-discarded {c} {next} g = go here g
-      where
-        go : {r : Entry} → EntryIs appid table body (C .entry) (C .end) after r → r ≡ Discarded c next → Turn appid o table body after turns at es next (λ e. cause appid table e ≡ some c)
-        go (is-kept a b d) g = let z : _≡_ {A = ℕ} 0 1 = cc in absurd (omega arith)
-        go (is-discarded {c = m} {next = k} a b) g =
-            let x : m ≡ c = cc in
-            let y : k ≡ next = cc in
-            turned (sym y ∙ b) (rw x at a)
+        is-some : fit (T .entry) ≡ some (T .entry)
+        is-some = unfold fit in (rw (le-leb (length (T .entry)) 512 (small kept-none-fits)))
+
+        taken : (t : Bool) (x : Bytes) → (if t then none else some (take (r .len) after)) ≡ some x → take (r .len) after ≡ x
+        taken true x e = let z : _≡_ {A = ℕ} 0 1 = cc in absurd (omega arith)
+        taken false x e = cc
+
+        go : (f : Option Bytes) → fit (T .entry) ≡ f → content (record { bytes = after; len = r .len }) ≡ f → take (r .len) after ≡ T .entry
+        go f e c = taken (ltb 512 (r .len)) (T .entry) (unfold content held in (c ∙ sym e ∙ is-some))
+
+    pub kept-first : kept appid table es ≡ T .entry ∷ kept appid table (T .rest)
+    kept-first = ap (kept appid table) (T .whole) ∙ kept-more appid table (T .entry) (T .rest) kept-none-fits
+
+  pub dropped-first : {c : Cause} → r .verdict ≡ Discarded c → kept appid table es ≡ kept appid table (T .rest)
+  dropped-first {c} h = ap (kept appid table) (T .whole) ∙ kept-less appid table (T .entry) (T .rest) (sym (T .cause-is) ∙ is-cause)
+    where
+      is-cause : causeOf (r .verdict) ≡ some c
+      is-cause = unfold causeOf in (rw h)

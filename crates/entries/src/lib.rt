@@ -122,10 +122,11 @@ fn judge(entry: &[u8], label: &[u8], deeper: bool, table: &[u8]) -> Verdict
 
 // ---- an entry
 
-// It is kept, and so many bytes of it are held; or it is discarded. Then the place of the next one.
-pub enum Entry {
-    Kept(usize, Next),
-    Discarded(Cause, Next),
+// How many bytes of it are held, above 512 where it has more; kept or discarded; and where the next one stands.
+pub struct Entry {
+    pub len: usize,
+    pub verdict: Verdict,
+    pub next: Next,
 }
 
 // The entry at a place, decoded; one without escapes is copied as it stands. A string that was read before stands there.
@@ -141,7 +142,8 @@ fn decode_entry(out: &mut [u8; 512], body: &[u8], at: usize) -> Progress
     Progress::On(entry.len(), q + 1)
 }
 
-// The entry at a place of the selected list, for the AppID with this owner.
+// The entry at a place of the selected list, for the AppID with this owner. The array is that of the `Decoded` in which the caller
+// holds the entry, the length its other field.
 pub fn read_entry(
     out: &mut [u8; 512],
     body: &[u8],
@@ -153,17 +155,27 @@ pub fn read_entry(
     ensures { λ r. ⌜ Reads (now (body .entry)) at (now (appid .entry)) owner (now (table .entry)) (now (out .entry)) (now (out .exit)) r ⌝ }
 {
     let Progress::On(n, j) = decode_entry(out, body, at) else {
-        return Entry::Discarded(Cause::TooLong, Next::Bad);
+        return Entry {
+            len: 0,
+            verdict: Verdict::Discarded(Cause::TooLong),
+            next: Next::Bad,
+        };
     };
     let next = trusted_list::next_entry(body, j);
     // more than are held: cause 1
     if 512 < n {
-        return Entry::Discarded(Cause::TooLong, next);
+        return Entry {
+            len: n,
+            verdict: Verdict::Discarded(Cause::TooLong),
+            next,
+        };
     }
     let label = ascii::part(appid, owner.start, owner.end);
     let entry = ascii::prefix(out, n);
-    match judge(entry, label, owner.deeper, table) {
-        Verdict::Kept => Entry::Kept(n, next),
-        Verdict::Discarded(c) => Entry::Discarded(c, next),
+    let verdict = judge(entry, label, owner.deeper, table);
+    Entry {
+        len: n,
+        verdict,
+        next,
     }
 }

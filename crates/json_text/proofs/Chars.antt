@@ -7,7 +7,7 @@ use native.Mathlib.Omega.{arith}
 use lib.ListN.{length, drop, length-drop}
 use Rattle.ascii.specs.Ascii.{Bytes, if_then_else_, between, among}
 use Rattle.json_text.specs.Reader.{Read, got, bad, Reader, more, behind, _>>=_, satisfy, fail, peek, ifNext_then_else_, lead_to_then_else_, mapped, _giving_, asWritten, verbatim, counted}
-use Rattle.json_text.specs.Utf8.{multibyteChar, encodeUtf8}
+use Rattle.json_text.specs.Utf8.{utf8Tail, multibyteChar, encodeUtf8}
 use Rattle.json_text.specs.Lexical.{unescaped, escaped, readChar, readChars, readString}
 use Rattle.json_text.specs.code.Places.{Peeked, readAt, placeOf, pointOf}
 use Rattle.json_text.specs.declared.Next.{Next}
@@ -15,6 +15,7 @@ use Rattle.json_text.specs.declared.Next.the-variants.{At, Bad}
 use Rattle.json_text.specs.declared.Point.{Point}
 use Rattle.json_text.specs.declared.Point.the-variants.{Code, Wrong}
 use Rattle.json_text.proofs.Steps.{on, then-bad, one-yes, one-no, next-yes, next-no, give-at, counted-at, giving-at, place-verbatim, place-mapped, map-give, found, missed, point-found, point-missed, is-one, not-one}
+use Rattle.json_text.proofs.Plain.{wide-c2, plain-wide}
 
 -- ---- one character
 
@@ -46,6 +47,9 @@ module _ {s : Bytes} {i b : ℕ} (g : Peeked s i b) where
 
   pub char-plain : {q : Next} → (b ≡ 92 → ⊥) → q ≡ placeOf (readAt unescaped s i) → q ≡ placeOf (readAt readChar s i)
   char-plain n r = rw (char-raw n, place-verbatim) r
+
+  pub char-two : {q : Next} → 0xC2 ≤ b → b ≤ 0xDF → q ≡ placeOf (readAt utf8Tail s (i + 1)) → q ≡ placeOf (readAt readChar s i)
+  char-two h k r = char-plain (λ e. omega arith) (plain-wide g (omega arith) (wide-c2 g h k r))
 
 -- ---- a character takes up a byte or more, and there is one
 

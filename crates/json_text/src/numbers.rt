@@ -23,22 +23,12 @@ const ONE: u16 = b'1' as u16;
 
 const NINE: u16 = b'9' as u16;
 
-// Two comparisons: the class table of `ascii` would be copied for each byte.
-fn is_digit(b: u8) -> bool
-    ensures { λ r. ⌜ r ≡ isDigit b ⌝ }
-{
-    if b < b'0' {
-        return false;
-    }
-    b <= b'9'
-}
-
 pub fn skip_digits(s: &[u8], from: usize) -> usize
     ensures { λ r. ⌜ readAt (many isDigit) (now (s .entry)) from ≡ got tt r ⌝ }
 {
     let mut i = from;
     while i < s.len() {
-        if is_digit(s[i]) {
+        if ascii::is_digit(s[i]) {
             i += 1;
         } else {
             return i;

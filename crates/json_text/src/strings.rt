@@ -5,6 +5,7 @@ use super::Point;
 use super::QUOTATION_MARK;
 use super::byte_at;
 use super::escapes::read_escape;
+use super::unescaped::skip_range;
 use super::unescaped::skip_unescaped;
 ghost use mathlib.Core.Path.{_≡_};
 ghost use Rattle.json_text.specs.Reader.{got, many, counted};
@@ -15,11 +16,18 @@ ghost use Rattle.json_text.specs.code.PlainString.{isAsciiChar, AsciiStr
 fn skip_char(s: &[u8], from: usize) -> Next
     ensures { λ r. ⌜ r ≡ placeOf (readAt readChar (now (s .entry)) from) ⌝ }
 {
-    if byte_at(s, from) == ESCAPE {
+    let b = byte_at(s, from);
+    if b == ESCAPE {
         let Point::Code(c, j) = read_escape(s, from + 1) else {
             return Next::Bad;
         };
         return Next::At(j);
+    }
+    // a character of two bytes, told before the others: most that are not ASCII
+    if 0xC2 <= b {
+        if b <= 0xDF {
+            return skip_range(s, from + 1, 0x80, 0xBF);
+        }
     }
     skip_unescaped(s, from)
 }

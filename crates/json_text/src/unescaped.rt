@@ -9,7 +9,7 @@ ghost use Rattle.json_text.specs.Lexical.{unescaped};
 ghost use Rattle.json_text.specs.code.Places.{readAt, placeOf};
 
 // A byte from lo to hi.
-fn skip_range(s: &[u8], from: usize, lo: u8, hi: u8) -> Next
+pub fn skip_range(s: &[u8], from: usize, lo: u8, hi: u8) -> Next
     ensures { λ r. ⌜ r ≡ placeOf (readAt (byteRange lo hi) (now (s .entry)) from) ⌝ }
 {
     let l = wide(lo);

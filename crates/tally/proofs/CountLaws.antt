@@ -11,14 +11,15 @@ use Rattle.json_text.specs.declared.Next.{Next}
 use Rattle.json_text.specs.declared.Next.the-variants.{At, Bad}
 use Rattle.trusted_list.specs.code.Entries.{firstEntry}
 use Rattle.entries.specs.Causes.{cause}
-use Rattle.entries.specs.code.Owner.{Owned}
+use Rattle.entries.specs.code.Owner.{Owned, causeOf}
 use Rattle.entries.specs.code.Reading.{Reads, IdsThere, entriesAt, left}
 use Rattle.entries.specs.declared.Cause.{Cause}
 use Rattle.entries.specs.declared.Cause.the-variants.{TooLong, OtherScheme, NotFacet, OtherLabel}
 use Rattle.entries.specs.declared.Owner.{Owner}
 use Rattle.entries.specs.declared.Entry.{Entry}
-use Rattle.entries.specs.declared.Entry.the-variants.{Kept, Discarded}
-use Rattle.entries.proofs.Walks.{Walk, walk-starts, Turn, Holds, walk-over, turn-kept, turn-discarded}
+use Rattle.entries.specs.declared.Verdict.{Verdict}
+use Rattle.entries.specs.declared.Verdict.the-variants.{Kept, Discarded}
+use Rattle.entries.proofs.Walks.{Walk, walk-starts, walk-over, Turn, turn, next-less}
 use Rattle.tally.specs.Tally.{causeNumber, Counts, countOf, counts}
 use Rattle.tally.specs.code.Meaning.{countsOf, one, plus, Under}
 use Rattle.tally.specs.declared.Counts.{Counts as Held}
@@ -70,9 +71,14 @@ counts-more appid table e es = go (cause appid table e)
 
 -- ---- one entry more
 
-pub add-kept : (c : Held) → countsOf (record { kept = c .kept + 1; long = c .long; scheme = c .scheme; facet = c .facet; label = c .label }) ≡ plus (countsOf c) (one none)
-unfolding countsOf plus one
-add-kept c = same-counts _ _ (omega arith) (omega arith) (omega arith) (omega arith) (omega arith)
+module _ (c : Held) {v : Verdict} where
+  pub add-kept : v ≡ Kept → countsOf (record { kept = c .kept + 1; long = c .long; scheme = c .scheme; facet = c .facet; label = c .label }) ≡ plus (countsOf c) (one (causeOf v))
+  unfolding countsOf plus one causeOf
+  add-kept h = rw h (same-counts _ _ (omega arith) (omega arith) (omega arith) (omega arith) (omega arith))
+
+  pub add-cause : {x : Cause} (d : Held) → v ≡ Discarded x → countsOf d ≡ plus (countsOf c) (one (some x)) → countsOf d ≡ plus (countsOf c) (one (causeOf v))
+  unfolding causeOf
+  add-cause d h e = e ∙ rw h
 
 module _ (c : Held) {x : Cause} where
   pub add-long : x ≡ TooLong → countsOf (record { kept = c .kept; long = c .long + 1; scheme = c .scheme; facet = c .facet; label = c .label }) ≡ plus (countsOf c) (one (some x))
@@ -136,19 +142,17 @@ module _ {appid : Bytes} {o : Owner} {table body : Bytes} {goal : Counts} {held 
   pub count-over : at ≡ Bad → countsOf c ≡ goal
   count-over h = sym (ap (plus (countsOf c)) (ap (counts appid table) (walk-over (S .walk) h) ∙ counts-none appid table) ∙ plus-none (countsOf c)) ∙ S .is
 
-  -- what is counted after a turn, and the rest
-  counted : {e : Bytes} {rest : List Bytes} {x : Option Cause} (d : Held) → S .es ≡ e ∷ rest → cause appid table e ≡ x → countsOf d ≡ plus (countsOf c) (one x) → plus (countsOf d) (counts appid table rest) ≡ goal
-  counted {e} {rest} {x} d w k a =
-      ap (λ (y : Counts). plus y (counts appid table rest)) a
-      ∙ plus-assoc (countsOf c) (one x) (counts appid table rest)
-      ∙ ap (λ (y : Option Cause). plus (countsOf c) (plus (one y) (counts appid table rest))) (sym k)
-      ∙ ap (plus (countsOf c)) (sym (counts-more appid table e rest) ∙ ap (counts appid table) (sym w))
-      ∙ S .is
-
   module _ {i : ℕ} (h : at ≡ At i) {after : Bytes} {r : Entry} (R : Reads body i appid o table held after r) where
-    roomy : S .turns < length body → Under 65536 c
-    roomy l =
+    T : Turn appid o table body after (S .turns) (S .es) r
+    T = turn (S .walk) h R
+
+    pub count-less : left body (r .next) < left body at
+    count-less = next-less (S .walk) h R
+
+    pub count-room : Under 65536 c
+    count-room =
         let U = S .small in
+        let l = T .some-left in
         record {
           kept = omega (arith, U .kept, S .short);
           long = omega (arith, U .long, S .short);
@@ -157,28 +161,13 @@ module _ {appid : Bytes} {o : Owner} {table body : Bytes} {goal : Counts} {held 
           label = omega (arith, U .label, S .short);
         }
 
-    module _ {next : Next} {x : Cause} (g : r ≡ Discarded x next) where
-      D : Turn appid o table body after (S .turns) at (S .es) next (λ e. cause appid table e ≡ some x)
-      D = turn-discarded (S .walk) h R g
-
-      pub drop-room : Under 65536 c
-      drop-room = roomy (D .some-left)
-
-      pub drop-less : left body next < left body at
-      drop-less = D .less
-
-      pub count-drop : (d : Held) → countsOf d ≡ plus (countsOf c) (one (some x)) → Counting appid o table body goal after next d
-      count-drop d a = record { turns = suc (S .turns); short = S .short; small = under-more {c = c} {r = d} (some x) a (S .small); es = D .rest; walk = D .walk; is = counted d (D .whole) (D .is) a }
-
-    module _ {k : ℕ} {next : Next} (g : r ≡ Kept k next) where
-      K : Turn appid o table body after (S .turns) at (S .es) next (Holds appid table after k)
-      K = turn-kept (S .walk) h R g
-
-      pub keep-room : Under 65536 c
-      keep-room = roomy (K .some-left)
-
-      pub keep-less : left body next < left body at
-      keep-less = K .less
-
-      pub count-keep : (d : Held) → countsOf d ≡ plus (countsOf c) (one none) → Counting appid o table body goal after next d
-      count-keep d a = record { turns = suc (S .turns); short = S .short; small = under-more {c = c} {r = d} none a (S .small); es = K .rest; walk = K .walk; is = counted d (K .whole) (K .is .no-cause) a }
+    pub count-more : (d : Held) → countsOf d ≡ plus (countsOf c) (one (causeOf (r .verdict))) → Counting appid o table body goal after (r .next) d
+    count-more d a = record { turns = suc (S .turns); short = S .short; small = under-more {c = c} {r = d} (causeOf (r .verdict)) a (S .small); es = T .rest; walk = T .walk; is = is }
+      where
+        is : plus (countsOf d) (counts appid table (T .rest)) ≡ goal
+        is =
+            ap (λ (y : Counts). plus y (counts appid table (T .rest))) a
+            ∙ plus-assoc (countsOf c) (one (causeOf (r .verdict))) (counts appid table (T .rest))
+            ∙ ap (λ (y : Option Cause). plus (countsOf c) (plus (one y) (counts appid table (T .rest)))) (T .cause-is)
+            ∙ ap (plus (countsOf c)) (sym (counts-more appid table (T .entry) (T .rest)) ∙ ap (counts appid table) (sym (T .whole)))
+            ∙ S .is

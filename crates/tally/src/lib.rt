@@ -1,16 +1,16 @@
 // The tally: how many entries are kept, and how many are discarded for each cause.
 use cleaning::Ready;
 use entries::Cause;
-use entries::Entry;
 use entries::Owner;
+use entries::Verdict;
 use json_text::Decoded;
 use json_text::Next;
 use refusals::Refusal;
 ghost use mathlib.Core.Path.{_≡_};
-ghost use mathlib.Core.Option.{none, some};
+ghost use mathlib.Core.Option.{some};
 ghost use Prim.Native.Nat.{_≤_};
 ghost use lib.ListN.{length};
-ghost use Rattle.entries.specs.code.Owner.{Owned};
+ghost use Rattle.entries.specs.code.Owner.{Owned, causeOf};
 ghost use Rattle.entries.specs.code.Reading.{IdsThere, entriesAt};
 ghost use Rattle.tally.specs.Tally.{counts, tally};
 ghost use Rattle.tally.specs.code.Meaning.{countsOf, tallyOf, one, plus, Under};
@@ -27,16 +27,6 @@ pub struct Counts {
 pub enum Tallied {
     Refused(Refusal),
     Counted(Counts),
-}
-
-// One kept entry more.
-fn add_kept(c: Counts) -> Counts
-    requires { ⌜ Under 65536 c ⌝ }
-    ensures { λ r. ⌜ countsOf r ≡ plus (countsOf c) (one none) ⌝ }
-{
-    let mut r = c;
-    r.kept += 1;
-    r
 }
 
 // One more that is discarded for a cause.
@@ -65,6 +55,21 @@ fn add_discarded(c: Counts, x: Cause) -> Counts
     }
 }
 
+// One entry more.
+fn add(c: Counts, v: Verdict) -> Counts
+    requires { ⌜ Under 65536 c ⌝ }
+    ensures { λ r. ⌜ countsOf r ≡ plus (countsOf c) (one (causeOf v)) ⌝ }
+{
+    match v {
+        Verdict::Kept => {
+            let mut r = c;
+            r.kept += 1;
+            r
+        }
+        Verdict::Discarded(x) => add_discarded(c, x),
+    }
+}
+
 // The entries of the ids at a place, one by one, for the AppID with this owner.
 fn count_ids(appid: &[u8], owner: Owner, body: &[u8], ids: usize, table: &[u8]) -> Counts
     requires { ⌜ Owned (now appid) (now table) owner × IdsThere (now body) ids × (length (now body) ≤ 65536) ⌝ }
@@ -86,16 +91,11 @@ fn count_ids(appid: &[u8], owner: Owner, body: &[u8], ids: usize, table: &[u8]) 
         let Next::At(i) = at else {
             return c;
         };
-        match entries::read_entry(&mut d.bytes, body, i, appid, owner, table) {
-            Entry::Kept(_, next) => {
-                c = add_kept(c);
-                at = next;
-            }
-            Entry::Discarded(x, next) => {
-                c = add_discarded(c, x);
-                at = next;
-            }
-        }
+        let e = entries::read_entry(&mut d.bytes, body, i, appid, owner, table);
+        d.len = e.len;
+        at = e.next;
+        let verdict = e.verdict;
+        c = add(c, verdict);
     }
 }
 

@@ -6,6 +6,9 @@ use crate::{
     hand::{body, body_of, case, APP},
     make::record::{answer, redirect},
 };
+use facets_hub::{
+    clean, decision_code, decision_code_with_place, fetch_location, private_label, tally, Refusal,
+};
 use std::{
     ffi::{c_int, c_ulong, c_void},
     hint::black_box,
@@ -111,7 +114,9 @@ fn worst() -> Vec<(String, u16, Case)> {
         table.resize(1_048_576, b'\n');
         table
     };
-    let web = || Case { caller: host.clone().into(), body: body(&[&host, APP]), ..base() };
+    // One byte longer than its cleaned list.
+    let loose = |ids: &[&str]| [body(ids), b" ".to_vec()].concat();
+    let web = || Case { caller: host.clone().into(), body: loose(&[&host, APP]), ..base() };
     // The longest rules there are, deeper than the AppID's label.
     let deepest = format!("{}l.l.example.com\n", "x.".repeat(119));
     let worst = [
@@ -122,7 +127,11 @@ fn worst() -> Vec<(String, u16, Case)> {
         ("objects 17 deep", 110, Case { body: in_version(&objects(13)), ..base() }),
         ("objects 16 deep for an entry", 111, Case { body: in_ids(&objects(12)), ..base() }),
         ("objects 17 deep for an entry", 110, Case { body: in_ids(&objects(13)), ..base() }),
-        ("longest native entry", 4, Case { caller: native.clone().into(), body: body(&[&native]), ..base() }),
+        (
+            "longest native entry",
+            4,
+            Case { caller: native.clone().into(), body: loose(&[&native]), ..base() },
+        ),
         ("an entry of 512 bytes", 114, Case { body: body_of(&format!("[\"{long}\"]")), ..base() }),
         ("longest string", 114, Case { body: body_of(&format!("[\"{longest}\"]")), ..base() }),
         ("longest skipped string", 4, Case { body: member(&format!("\"{longest}\"")), ..base() }),
@@ -169,26 +178,47 @@ fn nested() -> Vec<(String, u16, Vec<u8>)> {
     bodies
 }
 
+/// The stack that cleaning takes into an output of `room` bytes. `whole` is what it gives into one that is long
+/// enough; here a list that has no room is refusal 15.
+fn cleaning(case: &Case, whole: Result<usize, Refusal>, room: usize) -> usize {
+    let Case { appid, major, minor, body, table, .. } = case;
+    let (mut out, mut given) = (vec![0; room], None);
+    let taken = used(|| given = Some(clean(appid, *major, *minor, body, table, &mut out)));
+    let fitting = whole.and_then(|length| if length <= room { Ok(length) } else { Err(Refusal::Full) });
+    assert_eq!(given, Some(fitting), "into {room} bytes");
+    taken
+}
+
 #[test]
 fn every_call_takes_at_most_6_kib_of_stack() {
-    use facets_hub::{clean, decision_code, decision_code_with_place, fetch_location, private_label, tally};
     let mut most = [
         ("facets_private_label", 0),
         ("facets_decide", 0),
         ("facets_decide_place", 0),
         ("facets_fetch_location", 0),
         ("facets_clean", 0),
+        ("facets_clean, output a byte shorter than the body", 0),
+        ("facets_clean, output as long as the list", 0),
+        ("facets_clean, empty output", 0),
         ("facets_tally", 0),
     ];
     let nothing = used(|| ());
     let worst = worst();
+    let mut lists = 0;
     println!("stack with {} inputs; those that took more of it than any before, in bytes,", worst.len());
     println!("by {:?}:", most.map(|call| call.0));
     for (name, code, case) in worst {
         let Case { caller, appid, major, minor, record, text, body, table } = &case;
         let (inputs, mut place) = (case.decision(), 0);
         assert_eq!(decision_code(&inputs), code, "{name}");
-        let mut out = vec![0; 65_536];
+        let whole = clean(appid, *major, *minor, body, table, &mut vec![0; 65_536]);
+        let list = whole.unwrap_or(0);
+        // Where the output is shorter than the body, cleaning adds up the list's length first.
+        let rooms = [65_536, body.len() - 1, list, 0];
+        assert!(list < body.len(), "{name}");
+        lists += usize::from(whole.is_ok());
+        let [clean_whole, clean_shorter, clean_list, clean_empty] =
+            rooms.map(|room| cleaning(&case, whole, room));
         let unanswered = &record[..64];
         let host = &appid[8..253 + 8];
         let taken = [
@@ -196,7 +226,10 @@ fn every_call_takes_at_most_6_kib_of_stack() {
             used(|| decision_code(&inputs)),
             used(|| decision_code_with_place(&inputs, &mut place)),
             used(|| fetch_location(caller, appid, unanswered, text).len()),
-            used(|| clean(appid, *major, *minor, body, table, &mut out)),
+            clean_whole,
+            clean_shorter,
+            clean_list,
+            clean_empty,
             used(|| tally(appid, *major, *minor, body, table)),
         ];
         if taken.iter().zip(&most).any(|(taken, most)| *taken > most.1) {
@@ -206,6 +239,8 @@ fn every_call_takes_at_most_6_kib_of_stack() {
             most.1 = most.1.max(taken);
         }
     }
+    println!("{lists} of the inputs have a cleaned list");
+    assert!(lists >= 10, "lists whose length is added up");
     for (call, taken) in most {
         println!("{call}: at most {taken} bytes of stack, {:.1} KiB", taken as f64 / 1024.0);
         assert!(taken > nothing && taken <= MOST, "{call} takes {taken} bytes of stack");

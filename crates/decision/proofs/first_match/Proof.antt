@@ -31,7 +31,7 @@ first-match-spec =
     (λ c. search seeking)
     {- read-entry-requires -}
     (λ c κs. search seeking)
-    {- enum-known-len -}
+    {- enum-told-2 -}
     (λ c. search seeking)
     {- prefix-requires -}
     (λ c κs. search seeking)
@@ -45,7 +45,7 @@ first-match-spec =
     (λ c. search seeking)
     {- loop-again -}
     (λ c. search seeking)
-    {- enum-known-after -}
+    {- enum-told-3 -}
     (λ c. search seeking)
     {- loop-less-2 -}
     (λ c. search seeking)

@@ -25,11 +25,5 @@ read-entry-spec =
     (λ c κs. search reading)
     {- judge-requires -}
     (λ c κs. search reading)
-    {- enum-told-2 -}
-    (λ c. search reading)
-    {- enum-known-c -}
-    (λ c. search reading)
     {- returns-3 -}
-    (λ c. search reading)
-    {- returns-4 -}
     (λ c. search reading))

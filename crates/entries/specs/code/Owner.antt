@@ -7,7 +7,7 @@ use Rattle.ascii.specs.Ascii.{Bytes, isNone}
 use Rattle.suffix.specs.Host.{isHost}
 use Rattle.suffix.specs.Suffix.{readTable, privateLabel, orEmpty}
 use Rattle.suffix.specs.code.Depth.{deeperThan}
-use Rattle.origin.specs.Origin.{beginsHttps}
+use Rattle.origin.specs.Origin.{Authority, beginsHttps, httpsUrl}
 use Rattle.origin.specs.code.Parts.{part}
 use Rattle.entries.specs.AppId.{isBadAppId, appLabel}
 use Rattle.entries.specs.Causes.{labelsAgree, cause}
@@ -22,9 +22,11 @@ use Rattle.entries.specs.declared.AppOwner.the-variants.{BadTable, Is}
 
 -- ---- the AppID
 
--- its host ends at this place: the host's private label is the AppID's, under every table
+-- an HTTPS URL whose host ends at this place
 pub record HostEnds (appid : Bytes) (end : ℕ) : Type 0 where
-  pub is : (table : Bytes) → appLabel table appid ≡ privateLabel table (part appid 8 end)
+  pub url : Authority
+  pub is : httpsUrl appid ≡ some url
+  pub host : url .host ≡ part appid 8 end
 
 pub data AppIdIs (appid : Bytes) : AppId → Type 0 where
   is-bad : isBadAppId appid ≡ true → AppIdIs appid Bad

@@ -1,24 +1,22 @@
 -- What is held of the entry at a place, and the walk over the entries.
 use mathlib.Core.Path.{_≡_}
 use mathlib.Core.List.{List, []}
-use mathlib.Core.Option.{none, some, Option·getD}
+use mathlib.Core.Option.{some, Option·getD}
 use Prim.Native.Nat.{ℕ, suc, _-_}
-use lib.ListN.{length, take}
+use lib.ListN.{length}
 use Rattle.ascii.specs.Ascii.{Bytes}
 use Rattle.json_text.specs.Reader.{got}
 use Rattle.json_text.specs.Lexical.{readString}
-use Rattle.json_text.specs.code.Places.{readAt, PutsRead}
+use Rattle.json_text.specs.code.Places.{readAt, fit, content, PutsRead}
 use Rattle.json_text.specs.declared.Next.{Next}
 use Rattle.json_text.specs.declared.Next.the-variants.{At, Bad}
 use Rattle.json_text.specs.declared.Progress.{Progress}
 use Rattle.trusted_list.specs.code.Slots.{idsAt}
 use Rattle.trusted_list.specs.code.Entries.{nextEntry}
 use Rattle.entries.specs.Causes.{cause}
-use Rattle.entries.specs.code.Owner.{Owned}
-use Rattle.entries.specs.declared.Cause.{Cause}
+use Rattle.entries.specs.code.Owner.{Owned, causeOf}
 use Rattle.entries.specs.declared.Owner.{Owner}
 use Rattle.entries.specs.declared.Entry.{Entry}
-use Rattle.entries.specs.declared.Entry.the-variants.{Kept, Discarded}
 
 -- ---- one entry
 
@@ -26,12 +24,16 @@ use Rattle.entries.specs.declared.Entry.the-variants.{Kept, Discarded}
 pub record Decodes (body : Bytes) (at : ℕ) (before after : Bytes) (r : Progress) : Type 0 where
   pub is : (e : Bytes) (j : ℕ) → readAt readString body at ≡ got e j → PutsRead before 0 (got e j) after r
 
--- the entry e, which ends before j: it is kept and held, or discarded for a cause; and where the next one stands
-pub data EntryIs (appid table body e : Bytes) (j : ℕ) (held : Bytes) : Entry → Type 0 where
-  is-kept : {n : ℕ} {next : Next} → cause appid table e ≡ none → take n held ≡ e → next ≡ nextEntry body j → EntryIs appid table body e j held (Kept n next)
-  is-discarded : {c : Cause} {next : Next} → cause appid table e ≡ some c → next ≡ nextEntry body j → EntryIs appid table body e j held (Discarded c next)
+-- the entry e, which ends before j
+pub record EntryIs (appid table body e : Bytes) (j : ℕ) (bytes : Bytes) (r : Entry) : Type 0 where
+  -- it is held, or found to have more than 512 bytes
+  pub content-is : content (record { bytes = bytes; len = r .len }) ≡ fit e
+  -- it is kept, or discarded for its first cause
+  pub cause-is : causeOf (r .verdict) ≡ cause appid table e
+  -- the next one
+  pub next-is : r .next ≡ nextEntry body j
 
--- the entry at a place, and the array that holds it
+-- the entry at a place; of the array that holds it nothing is said behind the length
 pub record Reads (body : Bytes) (at : ℕ) (appid : Bytes) (o : Owner) (table before after : Bytes) (r : Entry) : Type 0 where
   pub size : (e : Bytes) (j : ℕ) → readAt readString body at ≡ got e j → length after ≡ length before
   pub is : length before ≡ 512 → Owned appid table o → (e : Bytes) (j : ℕ) → readAt readString body at ≡ got e j → EntryIs appid table body e j after r

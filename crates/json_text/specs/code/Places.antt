@@ -12,6 +12,7 @@ use Rattle.json_text.specs.declared.Next.{Next}
 use Rattle.json_text.specs.declared.Next.the-variants.{At, Bad}
 use Rattle.json_text.specs.declared.Point.{Point}
 use Rattle.json_text.specs.declared.Point.the-variants.{Code, Wrong}
+use Rattle.json_text.specs.declared.Decoded.{Decoded}
 use Rattle.json_text.specs.declared.Progress.{Progress}
 use Rattle.json_text.specs.declared.Progress.the-variants.{On, Stuck}
 
@@ -44,6 +45,10 @@ contentOf bad = none
 -- the first n of these bytes; none: there are more than are held
 unfoldable pub held : Bytes → ℕ → Option Bytes
 held bytes n = if ltb 512 n then none else some (take n bytes)
+
+-- the bytes that d holds, as many as its length says; none: it has more than it holds
+unfoldable pub content : Decoded → Option Bytes
+content d = held (d .bytes) (d .len)
 
 -- more bytes behind those that are held
 unfoldable pub push : Option Bytes → Bytes → Option Bytes

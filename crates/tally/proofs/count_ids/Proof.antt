@@ -30,19 +30,9 @@ count-ids-spec =
     (λ c. search counting)
     {- read-entry-requires -}
     (λ c κs. search counting)
-    {- enum-known-next -}
-    (λ c. search counting)
-    {- add-kept-requires -}
+    {- add-requires -}
     (λ c κs. search counting)
     {- loop-less -}
     (λ c. search counting)
     {- loop-again -}
-    (λ c. search counting)
-    {- enum-known-x -}
-    (λ c. search counting)
-    {- add-discarded-requires -}
-    (λ c κs. search counting)
-    {- loop-less-2 -}
-    (λ c. search counting)
-    {- loop-again-2 -}
     (λ c. search counting))

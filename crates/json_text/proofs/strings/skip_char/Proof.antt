@@ -21,7 +21,13 @@ skip-char-spec =
     (λ c. search string-laws)
     {- returns-2 -}
     (λ c. search string-laws)
-    {- skip-unescaped-requires -}
+    {- add-skip-range -}
+    (λ c. search fits)
+    {- skip-range-requires -}
     (λ c κs. search fits)
     {- returns-3 -}
+    (λ c. search string-laws)
+    {- skip-unescaped-requires -}
+    (λ c κs. search fits)
+    {- returns-4 -}
     (λ c. search string-laws))
