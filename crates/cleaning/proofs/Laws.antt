@@ -10,7 +10,12 @@ pub ruleset laws = (fits-first, fits-later, id-first, id-later, opening-first, o
 
 pub ruleset sizing = (size-starts, size-over, size-less, end-less, size-skip, keep-short, size-fits, size-keep, needs)
 
-pub ruleset write-loop = (write-starts, write-over, write-less, end-less, write-pass, write-size, write-add, needs)
+-- the turns of write_ids and the last return of write_list, each alone: a search that fails then tries every way
+pub ruleset write-turn = (write-pass, write-add, needs)
+
+pub ruleset list-last = (list-done)
+
+pub ruleset write-loop = (write-starts, write-over, write-less, end-less, write-size, needs)
 
 pub ruleset preparing = (prepare-bad, prepare-foreign, prepare-list, prepare-table, prepare-listed, needs)
 
@@ -20,6 +25,6 @@ pub ruleset heading = (head-wrote, needs)
 
 pub ruleset rooms = (room-owned, room-there, room-short, room-body, room-told, sum-first, sum-second, sum-third, needs)
 
-pub ruleset listing = (room-owned, room-there, room-short, list-full, head-room, ids-room, list-done, needs)
+pub ruleset listing = (room-owned, room-there, room-short, list-full, head-room, ids-room, needs)
 
 pub ruleset cleaning = (prepared-listed, clean-refused, clean-listed, needs)

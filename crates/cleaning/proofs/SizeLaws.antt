@@ -15,7 +15,6 @@ use Rattle.origin.proofs.NormalForms.{normal-short}
 use Rattle.json_text.specs.declared.Next.{Next}
 use Rattle.json_text.specs.declared.Next.the-variants.{At, Bad}
 use Rattle.trusted_list.specs.code.Entries.{firstEntry}
-use Rattle.entries.specs.Causes.{kept}
 use Rattle.entries.specs.code.Owner.{Owned}
 use Rattle.entries.specs.code.Reading.{Reads, IdsThere, entriesAt, left}
 use Rattle.entries.specs.declared.Cause.{Cause}

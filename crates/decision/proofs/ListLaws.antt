@@ -1,13 +1,13 @@
 -- What the list settles, the whole decision, and the fetch location.
 use mathlib.Core.Path.{_≡_, refl, sym, ap, _∙_}
-use mathlib.Core.Bool.{Bool, true, false, _&&_}
-use mathlib.Core.List.{List, [], _∷_}
+use mathlib.Core.Bool.{true, false}
+use mathlib.Core.List.{List, []}
 use mathlib.Core.Option.{Option, none, some}
-use Prim.Native.Nat.{ℕ, _+_, _-_, _≤_, _<_}
+use Prim.Native.Nat.{ℕ, _-_, _≤_}
 use native.Mathlib.Omega.{arith}
 use lib.ListN.{length, take, drop}
 use borrow.Author.Tests.{eq-eqb, ne-eqb}
-use Rattle.ascii.specs.Ascii.{Bytes, if_then_else_, _when_, _orElse_, isNone}
+use Rattle.ascii.specs.Ascii.{Bytes, _when_, _orElse_, isNone}
 use Rattle.suffix.specs.Suffix.{Rule, readTable}
 use Rattle.origin.specs.code.Parts.{part}
 use Rattle.refusals.specs.declared.Refusal.{Refusal}

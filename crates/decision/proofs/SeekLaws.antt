@@ -8,7 +8,7 @@ use native.Mathlib.Omega.{arith}
 use mir.Syntax.{w64}
 use mir.Val.{Fits}
 use lib.ListN.{length, take}
-use Rattle.ascii.specs.Ascii.{Bytes, if_then_else_, _>>=_}
+use Rattle.ascii.specs.Ascii.{Bytes, _>>=_}
 use Rattle.origin.specs.Matching.{facetMatches}
 use Rattle.json_text.specs.declared.Next.{Next}
 use Rattle.json_text.specs.declared.Next.the-variants.{At, Bad}

@@ -1,11 +1,11 @@
 -- What is settled before the list: one law for each way through the code.
 use mathlib.Core.Path.{_≡_, refl, sym, ap, _∙_}
-use mathlib.Core.Bool.{Bool, true, false, _&&_, not}
+use mathlib.Core.Bool.{Bool, true, false}
 use mathlib.Core.List.{[], _∷_}
 use Prim.Native.Nat.{ℕ}
 use native.Mathlib.Omega.{arith}
 use lib.ListN.{length}
-use Rattle.ascii.specs.Ascii.{Bytes, if_then_else_, isEmpty, same, lower, beginsWith, beginsWithNoCase}
+use Rattle.ascii.specs.Ascii.{Bytes, isEmpty, same, lower, beginsWith, beginsWithNoCase}
 use Rattle.origin.specs.Origin.{beginsHttps, httpsUrl, webOrigin, isFacet}
 use Rattle.origin.specs.Matching.{sameHost}
 use Rattle.refusals.specs.declared.Refusal.{Refusal}

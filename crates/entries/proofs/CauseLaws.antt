@@ -1,13 +1,12 @@
 -- One law for each way to a verdict.
-use mathlib.Core.Path.{_≡_, refl, sym, ap, _∙_}
-use mathlib.Core.Bool.{Bool, true, false, _&&_, _||_}
-use mathlib.Core.List.{_∷_}
+use mathlib.Core.Path.{_≡_, refl, sym, _∙_}
+use mathlib.Core.Bool.{Bool, true, false}
 use mathlib.Core.Option.{none, some}
-use Prim.Native.Nat.{ℕ, _+_, _-_, _≤_, _<_}
+use Prim.Native.Nat.{ℕ, _-_, _≤_, _<_}
 use native.Mathlib.Omega.{arith}
 use lib.ListN.{length, take, drop}
 use borrow.Author.Tests.{lt-ltb, le-ltb, le-leb}
-use Rattle.ascii.specs.Ascii.{Bytes, if_then_else_}
+use Rattle.ascii.specs.Ascii.{Bytes}
 use Rattle.origin.specs.Origin.{Authority, beginsHttps, beginsNative, webOrigin, isNative, isFacet}
 use Rattle.origin.specs.code.Parts.{part, authorityIn, Reads}
 use Rattle.origin.specs.declared.Parts.{Parts}

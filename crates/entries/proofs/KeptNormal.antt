@@ -3,11 +3,11 @@ use mathlib.Core.Path.{_≡_, refl, ap, _∙_}
 use mathlib.Core.List.{List, map}
 use mathlib.Core.Bool.{true}
 use mathlib.Core.Option.{Option, none, some, Option·map}
-use Prim.Native.Nat.{ℕ, _<_}
+use Prim.Native.Nat.{_<_}
 use native.Mathlib.Omega.{arith}
 use lib.ListN.{length}
 use borrow.Author.Tests.{leb-false, lt-leb}
-use Rattle.ascii.specs.Ascii.{Bytes, isNone, all, lower, sameNoCase}
+use Rattle.ascii.specs.Ascii.{Bytes, all, lower, sameNoCase}
 use Rattle.ascii.proofs.ListLaws.{all-mapped}
 use Rattle.suffix.proofs.Case.{private-label}
 use Rattle.origin.specs.Origin.{Authority, webOrigin, normalForm}
@@ -15,7 +15,7 @@ use Rattle.origin.specs.code.Normals.{normalAuthority, isPlainByte}
 use Rattle.origin.proofs.Origins.{web-begins}
 use Rattle.origin.proofs.NormalForms.{own-normal, normal-short, lower-twice, origin-normal, host-normal, facet-normal}
 use Rattle.origin.proofs.PlainBytes.{facet-plain}
-use Rattle.entries.specs.Causes.{labelsAgree, isOtherLabel, cause, kept}
+use Rattle.entries.specs.Causes.{labelsAgree, isOtherLabel, kept}
 use Rattle.entries.proofs.KeptTests.{isKept, kept-passes, passes-kept, kept-each, kept-id}
 
 -- ---- cause 4 does not see the normal form
@@ -51,15 +51,6 @@ kept-normal appid table e h = go (webOrigin e) refl
           facet = facet-normal e (P .facet);
           label = label-normal appid table e ∙ P .label;
         })
-
-is-none : {A : Type 0} (o : Option A) → isNone o ≡ true → o ≡ none
-is-none none h = refl
-is-none (some a) h = let z : _≡_ {A = ℕ} 0 1 = cc in absurd (omega arith)
-
--- the same by the causes: where none holds of an entry, none holds of its normal form
-pub cause-normal : (appid table e : Bytes) → cause appid table e ≡ none → cause appid table (normalForm e) ≡ none
-unfolding isKept
-cause-normal appid table e h = is-none (cause appid table (normalForm e)) (kept-normal appid table e (ap isNone h))
 
 module _ (appid table : Bytes) (es : List Bytes) where
   normals-kept : all (isKept appid table) (map normalForm (kept appid table es)) ≡ true

@@ -29,7 +29,7 @@ use Rattle.origin.specs.declared.Reading.the-variants.{Found, Malformed}
 use Rattle.origin.proofs.Readings.{found, is-none}
 use Rattle.entries.specs.AppId.{isBadAppId, appLabel}
 use Rattle.entries.specs.Causes.{labelsAgree}
-use Rattle.entries.specs.code.Owner.{HostEnds, AppIdIs, is-bad, is-foreign, is-url, Owns, Owned, OwnedBy, bad-table, owned, Differs}
+use Rattle.entries.specs.code.Owner.{HostEnds, AppIdIs, is-bad, is-foreign, is-url, Owns, OwnedBy, bad-table, owned, Differs}
 use Rattle.entries.specs.declared.AppId.the-variants.{Bad, Foreign, Url}
 use Rattle.entries.specs.declared.AppOwner.the-variants.{BadTable, Is}
 

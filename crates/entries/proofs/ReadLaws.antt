@@ -1,25 +1,24 @@
 -- One entry: decoded, judged, and where the next one stands.
 use mathlib.Core.Path.{_≡_, refl, sym, ap, _∙_}
 use mathlib.Core.Bool.{Bool, true, false}
-use mathlib.Core.List.{[], _∷_, _++_}
-use mathlib.Core.Option.{Option, none, some}
+use mathlib.Core.Option.{none, some}
 use Prim.Native.Nat.{ℕ, _+_, _-_, _≤_, _<_, _^_}
 use native.Mathlib.Omega.{arith}
 use mir.Syntax.{w64}
 use mir.Val.{Fits}
-use lib.Dec.{leb, ltb}
+use lib.Dec.{leb}
 use lib.ListN.{length, take, drop}
 use lib.Seq.{take-append-seam}
 use borrow.Author.Tests.{lt-ltb, le-ltb, le-leb, lt-leb, leb-true, leb-false}
 use Rattle.ascii.specs.Ascii.{Bytes, if_then_else_}
 use Rattle.origin.specs.code.Parts.{part, writtenAt, Wrote}
 use Rattle.origin.proofs.Writings.{wrote-is, wrote-length}
-use Rattle.json_text.specs.Reader.{Read, got, bad}
+use Rattle.json_text.specs.Reader.{got}
 use Rattle.json_text.specs.Lexical.{readString}
 use Rattle.json_text.specs.code.Places.{readAt, fit, held, content, push, Puts, PutsRead, is-on, is-stuck}
 use Rattle.json_text.specs.code.PlainString.{Within, in-text, no-place, Plain, is-plain, is-other, PlainIs}
 use Rattle.json_text.specs.declared.Next.{Next}
-use Rattle.json_text.specs.declared.Next.the-variants.{At, Bad}
+use Rattle.json_text.specs.declared.Next.the-variants.{At}
 use Rattle.json_text.specs.declared.Progress.{Progress}
 use Rattle.json_text.specs.declared.Progress.the-variants.{On, Stuck}
 use Rattle.trusted_list.specs.code.Entries.{nextEntry}

@@ -1,6 +1,6 @@
 -- What the answers of reading the AppID, its owner and the selection tell.
-use mathlib.Core.Path.{_≡_, sym, ap, _∙_}
-use mathlib.Core.Bool.{Bool, true, false}
+use mathlib.Core.Path.{_≡_, ap, _∙_}
+use mathlib.Core.Bool.{true, false}
 use mathlib.Core.List.{List}
 use mathlib.Core.Option.{none, some}
 use Prim.Native.Nat.{ℕ}
@@ -15,7 +15,7 @@ use Rattle.trusted_list.specs.declared.Selection.{Selection}
 use Rattle.trusted_list.specs.declared.Selection.the-variants.{Refused as ListRefused, Ids}
 use Rattle.entries.specs.AppId.{isBadAppId}
 use Rattle.entries.specs.code.Owner.{HostEnds, AppIdIs, is-bad, is-foreign, is-url, Owned, OwnedBy, bad-table, owned}
-use Rattle.entries.specs.code.Reading.{IdsThere, entriesAt}
+use Rattle.entries.specs.code.Reading.{entriesAt}
 use Rattle.entries.specs.declared.AppId.{AppId}
 use Rattle.entries.specs.declared.AppId.the-variants.{Bad, Foreign, Url}
 use Rattle.entries.specs.declared.Owner.{Owner}

@@ -5,17 +5,16 @@ use mathlib.Core.List.{List, [], _∷_}
 use mathlib.Core.Option.{Option, none, some}
 use Prim.Native.Nat.{ℕ, suc, _+_, _-_, _≤_, _<_}
 use native.Mathlib.Omega.{arith}
-use lib.Dec.{eqb, ltb, leb}
+use lib.Dec.{eqb, ltb}
 use lib.ListN.{length, take, drop}
 use borrow.Author.Tests.{eqb-true, eqb-false, ltb-false, le-leb}
-use Rattle.ascii.specs.Ascii.{Bytes, if_then_else_, isNone, filterBy, text}
-use Rattle.json_text.specs.Reader.{Read, got, bad, _>>=_, _>>_, oneOf, peek}
+use Rattle.ascii.specs.Ascii.{Bytes, if_then_else_, filterBy, text}
+use Rattle.json_text.specs.Reader.{Read, got, bad, oneOf, peek}
 use Rattle.json_text.specs.Lexical.{readString}
 use Rattle.json_text.specs.code.Places.{readAt, fit, held, content}
 use Rattle.json_text.specs.declared.Next.{Next}
 use Rattle.json_text.specs.declared.Next.the-variants.{At, Bad}
 use Rattle.json_text.proofs.Steps.{peek-in, one-yes, one-no, no-fall, is-one, not-one, found}
-use Rattle.trusted_list.specs.code.Slots.{idsAt}
 use Rattle.trusted_list.specs.code.Entries.{toNext, firstEntry, nextEntry, Coming, over, comes}
 use Rattle.trusted_list.proofs.MemberLaws.{bound}
 use Rattle.trusted_list.proofs.EntryLaws.{entries-come}

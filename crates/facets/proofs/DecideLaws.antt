@@ -1,7 +1,7 @@
 -- The exported decision: its number, its place, the label that rule 4 asks for, and demand 3. Assumes nothing.
 use mathlib.Core.Path.{_≡_, refl, sym, ap, _∙_}
 use mathlib.Core.Option.{some}
-use Prim.Native.Nat.{ℕ, _+_, _≤_, _<_}
+use Prim.Native.Nat.{ℕ, _+_, _≤_}
 use native.Mathlib.Omega.{arith}
 use mir.Syntax.{w16, w32}
 use mir.Val.{Fits}
@@ -19,7 +19,8 @@ use Rattle.decision.specs.declared.Answer.the-variants.{Rule1, Rule2, Rule3, Ru
 use Rattle.decision.proofs.Padding.{padding-decision}
 use Rattle.decision.proofs.PlaceSmall.{place-small}
 use Rattle.decision.proofs.Rule4.{rule4-label}
-use Rattle.facets.specs.Promises.{placeAfter, SmallPlace, SameNumber, SamePlace, UnderLabel}
+use Rattle.facets.specs.Promises.{placeAfter, SameNumber, SamePlace, UnderLabel}
+use Rattle.facets.specs.code.Places.{SmallPlace}
 
 -- ---- the number
 

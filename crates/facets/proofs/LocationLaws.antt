@@ -1,8 +1,6 @@
 -- The exported fetch location: its three numbers, and the part that they name. Assumes nothing.
 use mathlib.Core.Path.{_≡_, refl, _∙_}
 use mathlib.Core.Bool.{Bool, true, false, _||_, _&&_, not}
-use mathlib.Core.List.{List, [], _∷_, map, head?}
-use mathlib.Core.Option.{Option, none, some, Option·getD}
 use Prim.Native.Nat.{ℕ, _+_, _-_, _≤_, _<_}
 use native.Mathlib.Omega.{arith}
 use mir.Syntax.{w32}
@@ -11,15 +9,15 @@ use lib.ListN.{length}
 use lib.Seq.{take-length}
 use lib.Dec.{ltb}
 use borrow.Author.Tests.{ltb-false}
-use Rattle.ascii.specs.Ascii.{Bytes, if_then_else_, _>>=_, isNone, lastOf}
+use Rattle.ascii.specs.Ascii.{Bytes, if_then_else_, isNone}
 use Rattle.origin.specs.Origin.{beginsHttps, httpsUrl, isFacet}
 use Rattle.origin.specs.code.Parts.{part}
 use Rattle.refusals.specs.declared.Refusal.the-variants.{Stranger, BadAppId}
-use Rattle.fetch_record.specs.Record.{Redirect, Fetched, location, lastLocation, lastRedirect, readRecord, lastHop}
+use Rattle.fetch_record.specs.Record.{Redirect, lastHop}
 use Rattle.entries.specs.AppId.{isBadAppId}
-use Rattle.decision.specs.Answer.{rule1, rule2, rule3, rule4, fetch, refused}
-use Rattle.decision.specs.Decide.{Stage, settled, listDue, beforeList}
-use Rattle.decision.specs.Location.{fetchFrom, ifFetch, fetchLocation, Source, nowhere, theAppId, redirect, sourceFrom, sourceIfFetch, fetchSource}
+use Rattle.decision.specs.Answer.{refused}
+use Rattle.decision.specs.Decide.{settled, beforeList}
+use Rattle.decision.specs.Location.{Source, nowhere, theAppId, redirect, sourceFrom, sourceIfFetch, fetchSource}
 use Rattle.decision.specs.code.Meaning.{Stands, at-nowhere, at-app, at-hop, Inside, text-place, locationOf, Locates}
 use Rattle.decision.specs.declared.Location.{Location}
 use Rattle.decision.specs.declared.Location.the-variants.{Nothing, AppId, Text}
@@ -142,42 +140,3 @@ module _ {appid lent p : Bytes} {s : Source} {r : Location} (L : Locates appid l
 
 pub app-fits : (caller appid items lent : Bytes) {p : Bytes} {r : Location} → Locates appid lent p (fetchSource caller appid items lent) r → r ≡ AppId → Fits w32 (length appid)
 app-fits caller appid items lent L h = record { fits = omega (arith, app-short caller appid items lent (app-is L h)) }
-
--- ---- the part that they name
-
-module _ (appid lent : Bytes) where
-  abbrev part-of : Source → Bytes
-  part-of s = named appid lent (sourceNumber s) (sourceStart s) (sourceLength appid s)
-
-  whole-part : part-of theAppId ≡ appid
-  unfolding named namedSlice
-  whole-part = take-length appid
-
-  hop-part : (l : List Redirect) → part-of (sourceFrom (head? l)) ≡ Option·getD (head? (map (location lent) l)) appid
-  unfolding sourceFrom location named namedSlice
-  hop-part [] = take-length appid
-  hop-part (h ∷ l) = refl
-
-  from-part : (items : Bytes) → part-of (sourceFrom (lastHop items lent)) ≡ fetchFrom appid items lent
-  unfolding lastHop fetchFrom
-  from-part items = go (readRecord items lent)
-    where
-      go : (o : Option Fetched) → part-of (sourceFrom (o >>= λ f. lastRedirect (f .redirects))) ≡ Option·getD (o >>= λ f. lastLocation lent (f .redirects)) appid
-      go none = unfold sourceFrom in whole-part
-      go (some f) = unfold lastRedirect lastLocation in (hop-part (lastOf 1 (f .redirects)))
-
--- the part of the AppID or of the text that they name is document 01's fetch location
-pub located-part : (caller appid items lent : Bytes)
-    → named appid lent (sourceNumber (fetchSource caller appid items lent)) (sourceStart (fetchSource caller appid items lent)) (sourceLength appid (fetchSource caller appid items lent))
-    ≡ fetchLocation caller appid items lent
-unfolding fetchSource fetchLocation sourceIfFetch ifFetch named namedSlice
-located-part caller appid items lent = go (beforeList caller appid items lent)
-  where
-    go : (s : Stage) → part-of appid lent (sourceIfFetch s (sourceFrom (lastHop items lent))) ≡ ifFetch s (fetchFrom appid items lent)
-    go (listDue a) = refl
-    go (settled rule1) = refl
-    go (settled rule2) = refl
-    go (settled rule3) = refl
-    go (settled (rule4 n)) = refl
-    go (settled (refused r)) = refl
-    go (settled fetch) = from-part appid lent items

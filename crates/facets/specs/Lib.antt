@@ -3,3 +3,4 @@ pub mod Located
 pub mod Cleanings
 pub mod TallyFields
 pub mod Demands
+pub mod code

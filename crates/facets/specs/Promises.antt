@@ -1,7 +1,7 @@
 -- What the exported decision promises besides its number: the place, and demand 3 (document 01, "The list" and "Fetch record and decision").
 use mathlib.Core.Path.{_≡_}
 use mathlib.Core.Option.{some}
-use Prim.Native.Nat.{ℕ, _<_}
+use Prim.Native.Nat.{ℕ}
 use Rattle.ascii.specs.Ascii.{Bytes}
 use Rattle.origin.specs.Origin.{Authority, webOrigin}
 use Rattle.entries.specs.SameKept.{SameKept}
@@ -17,10 +17,6 @@ placeAfter before rule3 = before
 placeAfter before (rule4 n) = n
 placeAfter before fetch = before
 placeAfter before (refused r) = before
-
--- the place of an answer fits the number that it is written to
-pub record SmallPlace (a : Answer) : Type 0 where
-  pub is : (n : ℕ) → a ≡ rule4 n → n < 65536
 
 -- demand 3: every other body with the same kept entries has this number
 pub record SameNumber (number : ℕ) (caller appid : Bytes) (major minor : ℕ) (items lent body table : Bytes) : Type 0 where
