@@ -19,18 +19,33 @@ write-ids-spec =
     (tie.spec
     Inv-loop
     μ-loop
-    {- first-entry-requires -} (λ c κs. search write-loop)
-    {- loop-holds -} (λ c. search write-loop)
-    {- enum-known-at -} (λ c. search write-loop)
-    {- enum-told -} (λ c. search write-loop)
-    {- same-length -} (λ c. search write-loop)
-    {- returns -} (λ c. search write-loop)
-    {- read-entry-requires -} (λ c κs. search write-loop)
-    {- enum-told-2 -} (λ c. search write-loop)
-    {- prefix-requires -} (λ c κs. search write-loop)
-    {- write-id-requires -} (λ c κs. search write-loop)
-    {- loop-less -} (λ c. search write-loop)
-    {- loop-again -} (λ c. search write-turn)
-    {- enum-told-3 -} (λ c. search write-loop)
-    {- loop-less-2 -} (λ c. search write-loop)
-    {- loop-again-2 -} (λ c. search write-turn))
+    {- first-entry-requires -}
+    (λ c κs. search write-loop)
+    {- loop-holds -}
+    (λ c. search write-loop)
+    {- enum-known-at -}
+    (λ c. search write-loop)
+    {- enum-told -}
+    (λ c. search write-loop)
+    {- same-length -}
+    (λ c. search write-loop)
+    {- returns -}
+    (λ c. search write-loop)
+    {- read-entry-requires -}
+    (λ c κs. search write-loop)
+    {- enum-told-2 -}
+    (λ c. search write-loop)
+    {- prefix-requires -}
+    (λ c κs. search write-loop)
+    {- write-id-requires -}
+    (λ c κs. search write-loop)
+    {- loop-less -}
+    (λ c. search write-loop)
+    {- loop-again -}
+    (λ c. search write-turn)
+    {- enum-told-3 -}
+    (λ c. search write-loop)
+    {- loop-less-2 -}
+    (λ c. search write-loop)
+    {- loop-again-2 -}
+    (λ c. search write-turn))
