@@ -67,6 +67,13 @@ unfolding joinBest
 join-bad Bad = refl
 join-bad (Sizes e m) = refl
 
+pub join-assoc : (a b c : Best) → joinBest (joinBest a b) c ≡ joinBest a (joinBest b c)
+unfolding joinBest
+join-assoc Bad b c = refl
+join-assoc (Sizes e m) Bad c = refl
+join-assoc (Sizes e m) (Sizes f n) Bad = refl
+join-assoc (Sizes e m) (Sizes f n) (Sizes g k) = ap₂ Sizes (omega arith) (omega arith)
+
 pub join-join : (e m f n : ℕ) (b : Best) → joinBest (Sizes e m) (joinBest (Sizes f n) b) ≡ joinBest (Sizes (max e f) (max m n)) b
 unfolding joinBest
 join-join e m f n Bad = refl
@@ -109,7 +116,7 @@ none-left : (host : List Bytes) → bestOf host (readLines (splitAt 10 [])) ≡ 
 unfolding splitAt readLines content takeWhile isSkipped
 none-left host = refl
 
-none-sizes : (host : List Bytes) → bestOf host (readLines []) ≡ Sizes 0 0
+pub none-sizes : (host : List Bytes) → bestOf host (readLines []) ≡ Sizes 0 0
 unfolding readLines bestOf sizes filterBy maxLabels
 none-sizes host = refl
 

@@ -3,3 +3,4 @@ pub mod Depth
 pub mod Idle
 pub mod Place
 pub mod Deeper
+pub mod Span

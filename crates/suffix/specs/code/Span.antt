@@ -1,0 +1,36 @@
+-- The rules that go deeper than a private label stand in one span of the table's lines.
+use mathlib.Core.Path.{_≡_}
+use mathlib.Core.List.{List, [], _++_}
+use mathlib.Core.Bool.{false}
+use mathlib.Core.Option.{some}
+use Prim.Native.Nat.{ℕ, _-_, _≤_}
+use Prim.Native.Char.{code}
+use lib.ListN.{length, take, drop}
+use lib.Dec.{leb}
+use Rattle.ascii.specs.Ascii.{Bytes, if_then_else_, splitAt}
+use Rattle.suffix.specs.Host.{labels}
+use Rattle.suffix.specs.Suffix.{Rule, readLines}
+use Rattle.suffix.specs.code.Deeper.{deeperIn}
+use Rattle.suffix.specs.code.Depth.{deepest}
+
+-- the lines that begin at a place or behind it; behind the table's end there is none
+unfoldable pub linesFrom : Bytes → ℕ → List Bytes
+linesFrom table at = if leb at (length table) then splitAt (code "\n") (drop at table) else []
+
+-- good lines from one place to another, whose rules go deeper than at most d last labels of the host
+pub record Passed (host table : Bytes) (d from to : ℕ) : Type 0 where
+  pub lines : List Bytes
+  pub rules : List Rule
+  pub are : linesFrom table from ≡ lines ++ linesFrom table to
+  pub read : readLines lines ≡ some rules
+  pub depth : deepest (labels host) rules ≤ d
+
+-- the table's lines are those before the span, in it and behind it; no rule before or behind it goes deeper than the label
+pub record Spans (table label : Bytes) (from to : ℕ) : Type 0 where
+  pub before : List Bytes
+  pub behind : List Bytes
+  pub onward : from ≤ to
+  pub inside : to ≤ length table
+  pub lines : splitAt (code "\n") table ≡ before ++ (splitAt (code "\n") (take (to - from) (drop from table)) ++ behind)
+  pub before-not : deeperIn (labels label) (readLines before) ≡ false
+  pub behind-not : deeperIn (labels label) (readLines behind) ≡ false
