@@ -145,7 +145,7 @@ unfolding depthOf goesDeeper
 same-depth [] ns = refl
 same-depth (l ∷ ls) ns = rw (same-depth ls ns)
 
-told-none : {A : Type 0} (o : Option Rule) → isNone (oneRule o) ≡ false → o ≡ none → A
+pub told-none : {A : Type 0} (o : Option Rule) → isNone (oneRule o) ≡ false → o ≡ none → A
 unfolding oneRule
 told-none none g e = true-false g
 told-none (some r) g e = let z : _≡_ {A = ℕ} 0 1 = cc in absurd (omega arith)
@@ -154,7 +154,7 @@ pub record Reads (v : Bytes) (o : Option Rule) (r : Rule) : Type 0 where
   pub host : isHost v ≡ true
   pub is : o ≡ some r
 
-wild-reads : (v : Bytes) → isNone (oneRule (readRule (42 ∷ 46 ∷ v))) ≡ false → Reads v (readRule (42 ∷ 46 ∷ v)) (wild v)
+pub wild-reads : (v : Bytes) → isNone (oneRule (readRule (42 ∷ 46 ∷ v))) ≡ false → Reads v (readRule (42 ∷ 46 ∷ v)) (wild v)
 wild-reads v g = go (isHost v) (leb (length v) 251) refl refl
   where
     go : (a b : Bool) → isHost v ≡ a → leb (length v) 251 ≡ b → Reads v (readRule (42 ∷ 46 ∷ v)) (wild v)
@@ -162,7 +162,7 @@ wild-reads v g = go (isHost v) (leb (length v) 251) refl refl
     go true false e f = told-none (readRule (42 ∷ 46 ∷ v)) g (rule-wild-long v (leb-false (length v) 251 f))
     go true true e f = record { host = e; is = rule-wild v e (leb-true (length v) 251 f) }
 
-exception-reads : (v : Bytes) → isNone (oneRule (readRule (33 ∷ v))) ≡ false → Reads v (readRule (33 ∷ v)) (exceptional (labels v))
+pub exception-reads : (v : Bytes) → isNone (oneRule (readRule (33 ∷ v))) ≡ false → Reads v (readRule (33 ∷ v)) (exceptional (labels v))
 exception-reads v g = go (isHost v) (leb 2 (length (labels v))) refl refl
   where
     go : (a b : Bool) → isHost v ≡ a → leb 2 (length (labels v)) ≡ b → Reads v (readRule (33 ∷ v)) (exceptional (labels v))
@@ -198,12 +198,12 @@ module _ (h w : Bytes) where
             omega (arith, leb-false 1 (depthOf (labels h) (normal ((42 ∷ []) ∷ []))) (sym (leb-depth 1 (labels h) (normal ((42 ∷ []) ∷ [])) (omega arith) (labels-some h)) ∙ x))
 
     module _ (g : Good w) where
-      good : isNone (oneRule (readRule w)) ≡ false
-      good = rw R at (g .is)
+      pub rule-good : isNone (oneRule (readRule w)) ≡ false
+      rule-good = rw R at (g .is)
 
       module _ {b : Bool} (i : b ≡ beginsWith (42 ∷ 46 ∷ []) w) (j : b ≡ true) where
         wild-is : Reads (drop 2 w) (readRule w) (wild (drop 2 w))
-        wild-is = rw (← begins-is (42 ∷ 46 ∷ []) w (sym i ∙ j)) at (wild-reads (drop 2 w) (rw (← begins-is (42 ∷ 46 ∷ []) w (sym i ∙ j)) good))
+        wild-is = rw (← begins-is (42 ∷ 46 ∷ []) w (sym i ∙ j)) at (wild-reads (drop 2 w) (rw (← begins-is (42 ∷ 46 ∷ []) w (sym i ∙ j)) rule-good))
 
         pub depth-wild-host : isHost (take (length w - 2) (drop 2 w)) ≡ true
         depth-wild-host = rw (rest-whole w 2) (wild-is .host)
@@ -213,7 +213,7 @@ module _ (h w : Bytes) where
 
       module _ {b : Bool} (i : b ≡ beginsWith (33 ∷ []) w) (j : b ≡ true) where
         exception-is : Reads (drop 1 w) (readRule w) (exceptional (labels (drop 1 w)))
-        exception-is = rw (← begins-is (33 ∷ []) w (sym i ∙ j)) at (exception-reads (drop 1 w) (rw (← begins-is (33 ∷ []) w (sym i ∙ j)) good))
+        exception-is = rw (← begins-is (33 ∷ []) w (sym i ∙ j)) at (exception-reads (drop 1 w) (rw (← begins-is (33 ∷ []) w (sym i ∙ j)) rule-good))
 
         pub depth-exception-host : isHost (take (length w - 1) (drop 1 w)) ≡ true
         depth-exception-host = rw (rest-whole w 1) (exception-is .host)
@@ -227,7 +227,7 @@ module _ (h w : Bytes) where
           where
             go : (u : Bool) → isHost w ≡ u → u ≡ true
             go true k = refl
-            go false k = told-none (readRule w) good (unfold readRule in (rw (k, sym a ∙ a′, sym b ∙ b′, sym d ∙ d′)))
+            go false k = told-none (readRule w) rule-good (unfold readRule in (rw (k, sym a ∙ a′, sym b ∙ b′, sym d ∙ d′)))
 
         pub depth-host : (d : ℕ) {q : ℕ} → q ≡ max d (depthOf (labels h) (normal (labels w))) → q ≡ max d (lineDepth (labels h) (readLine w))
         depth-host d k = k ∙ ap (max d) (rw (R, rule-host w depth-host-host) (depth-one (labels h) (normal (labels w))))

@@ -62,7 +62,7 @@ unfolding joinBest
 join-zero Bad = refl
 join-zero (Sizes e m) = ap₂ Sizes (omega arith) (omega arith)
 
-join-bad : (b : Best) → joinBest b Bad ≡ Bad
+pub join-bad : (b : Best) → joinBest b Bad ≡ Bad
 unfolding joinBest
 join-bad Bad = refl
 join-bad (Sizes e m) = refl

@@ -1,4 +1,5 @@
--- Where no rule goes deeper than the label of one host, a host has that label exactly where it ends in it. Assumes nothing.
+-- A host that ends in the label of another has that label exactly where both have as long a public suffix; where no rule goes
+-- deeper than the label, always. Assumes nothing.
 use mathlib.Core.Path.{_≡_, refl, sym, ap, _∙_}
 use mathlib.Core.Bool.{Bool, true, false, _&&_, _||_, and-eq-true-iff}
 use mathlib.Core.List.{List, [], _∷_, map}
@@ -7,8 +8,8 @@ use Prim.Native.Nat.{ℕ, zero, suc, _+_, _-_, _≤_, _<_}
 use native.Mathlib.Omega.{arith}
 use lib.ListN.{length, drop, length-drop, length-map}
 use lib.Seq.{drop-drop}
-use lib.Dec.{leb}
-use borrow.Author.Tests.{lt-ltb, lt-leb, le-leb, leb-true, leb-false}
+use lib.Dec.{eqb, leb}
+use borrow.Author.Tests.{eq-eqb, eqb-true, lt-ltb, lt-leb, le-leb, leb-true, leb-false}
 use Rattle.ascii.specs.Ascii.{Bytes, if_then_else_, _>>=_, between, all, any, filterBy, lastOf, splitAt, joinWith, isDigit, lower, sameNoCase}
 use Rattle.ascii.proofs.Split.{join-split}
 use Rattle.suffix.specs.Host.{labels, isLabel, isHost, isAddress}
@@ -16,6 +17,7 @@ use Rattle.suffix.specs.code.Place.{endsAtLabel}
 use Rattle.suffix.specs.Suffix.{Rule, normal, nameMatches, allMatch, matches, prevailing, suffixSize, publicSuffix, privateLabels, labelUnder, readTable, privateLabel}
 use Rattle.suffix.specs.code.Deeper.{goesDeeper, deeperIn, isDeeper, isTheLabel}
 use Rattle.suffix.proofs.Case.{last-map, all-match, is-address}
+use Rattle.suffix.proofs.Answers.{Found}
 use Rattle.suffix.proofs.Ends.{Alike, both-ways, true-false, same-eq, same-refl, all-equal, all-matching, labels-some, begin-labels, begin-is, names-lower, lower-names, ends-match, match-ends}
 
 -- ---- lists of labels, without regard to case
@@ -59,7 +61,7 @@ deep-match k ns host h l m = rw (← last-drop (length ns) k host h l) (match-dr
 -- ---- the rules that match a host are those that match its label
 
 module _ (ls host : List Bytes) (l : length ls ≤ length host) (e : Alike (lastOf (length ls) host) ls) where
-  rule-same : (r : Rule) → goesDeeper ls r ≡ false → matches host r ≡ matches ls r
+  pub rule-same : (r : Rule) → goesDeeper ls r ≡ false → matches host r ≡ matches ls r
   unfolding goesDeeper matches
   rule-same r d = go (leb (length (r .names)) (length ls)) refl
     where
@@ -132,35 +134,43 @@ is-label rules host n s b a = let f = length-last n host (omega arith) in rw (a,
 
 -- ---- the law, on labels
 
-module _ (rules : List Rule) (host₀ ls : List Bytes) (p : privateLabels rules host₀ ≡ some ls) (d : any (goesDeeper ls) rules ≡ false) where
+module _ (rules : List Rule) (host₀ ls : List Bytes) (p : privateLabels rules host₀ ≡ some ls) where
   P : LabelIs rules host₀ ls
   P = label-is rules host₀ ls p
 
   size-ls : length ls ≡ P .size + 1
   size-ls = ap length (P .is) ∙ length-last (P .size + 1) host₀ (omega (arith, P .below))
 
-  own : Alike (lastOf (length ls) host₀) ls
+  pub own : Alike (lastOf (length ls) host₀) ls
   own = let e : lastOf (length ls) host₀ ≡ ls = rw size-ls (sym (P .is)) in ap (map lower) e
 
-  inside : length ls ≤ length host₀
+  pub inside : length ls ≤ length host₀
   inside = omega (arith, size-ls, P .below)
 
   module _ (host : List Bytes) where
-    pub alike-labels : length ls ≤ length host → Alike (lastOf (length ls) host) ls → privateLabels rules host ≡ some (lastOf (length ls) host)
-    alike-labels l e =
-        let f : suffixSize (prevailing (filterBy (matches host) rules)) ≡ P .size =
-        ap (λ (ms : List Rule). suffixSize (prevailing ms)) (rules-same ls host l e rules d ∙ sym (rules-same ls host₀ inside own rules d)) ∙ P .suffix in
+    -- where no rule goes deeper, the public suffix is as long as that of the first host
+    same-size : any (goesDeeper ls) rules ≡ false → length ls ≤ length host → Alike (lastOf (length ls) host) ls → suffixSize (prevailing (filterBy (matches host) rules)) ≡ P .size
+    same-size d l e = ap (λ (ms : List Rule). suffixSize (prevailing ms)) (rules-same ls host l e rules d ∙ sym (rules-same ls host₀ inside own rules d)) ∙ P .suffix
+
+    alike-labels : suffixSize (prevailing (filterBy (matches host) rules)) ≡ P .size → length ls ≤ length host → Alike (lastOf (length ls) host) ls → privateLabels rules host ≡ some (lastOf (length ls) host)
+    alike-labels f l e =
         let a : isAddress host ≡ false =
         address-same ls host l e (omega (arith, size-ls)) ∙ sym (address-same ls host₀ inside own (omega (arith, size-ls))) ∙ P .name in
         is-label rules host (P .size) f (omega (arith, size-ls)) a ∙ rw size-ls
 
-    pub labels-alike : (ms : List Bytes) → privateLabels rules host ≡ some ms → Alike ms ls → (length ls ≤ length host) × Alike (lastOf (length ls) host) ls
+    record Ends : Type 0 where
+      size : suffixSize (prevailing (filterBy (matches host) rules)) ≡ P .size
+      fits : length ls ≤ length host
+      alike : Alike (lastOf (length ls) host) ls
+
+    labels-alike : (ms : List Bytes) → privateLabels rules host ≡ some ms → Alike ms ls → Ends
     labels-alike ms q e =
         let Q = label-is rules host ms q in
         let n : length ms ≡ Q .size + 1 = ap length (Q .is) ∙ length-last (Q .size + 1) host (omega (arith, Q .below)) in
         let k : length ls ≡ Q .size + 1 = sym (alike-length ms ls e) ∙ n in
         let f : lastOf (length ls) host ≡ ms = rw k (sym (Q .is)) in
-        (omega (arith, Q .below), ap (map lower) f ∙ e)
+        let z : Q .size ≡ P .size = omega (arith, k, size-ls) in
+        record { size = Q .suffix ∙ z; fits = omega (arith, Q .below); alike = ap (map lower) f ∙ e }
 
 -- ---- the law, on bytes
 
@@ -208,7 +218,7 @@ opened table host label p = go (isHost host) (readTable table) refl refl p
     go true none a b p = let z : _≡_ {A = ℕ} 0 1 = cc in absurd (omega arith)
     go true (some rules) a b p = under rules a b (privateLabels rules (labels host)) refl (unfold labelUnder in p)
 
-module _ (table host₀ label : Bytes) (p : privateLabel table host₀ ≡ some label) (d : isDeeper table label ≡ false) where
+module _ (table host₀ label : Bytes) (p : privateLabel table host₀ ≡ some label) where
   O : Opened table host₀ label
   O = opened table host₀ label p
 
@@ -218,48 +228,97 @@ module _ (table host₀ label : Bytes) (p : privateLabel table host₀ ≡ some 
   names : labels label ≡ O .parts
   names = ap labels (O .is ∙ ap (joinWith 46) (L .is)) ∙ last-names host₀ (L .size + 1) (omega arith) ∙ sym (L .is)
 
-  no-deeper : any (goesDeeper (O .parts)) (O .rules) ≡ false
-  unfolding isDeeper deeperIn
-  no-deeper = rw (names, O .read) at d
-
   good : all isLabel (labels label) ≡ true
   unfolding lastOf
   good = rw (names, L .is) (all-drop isLabel (length (labels host₀) - (L .size + 1)) (labels host₀) (host-labels host₀ (O .good)))
+
+  -- a host that ends in the label at a dot has its labels, last
+  pub record Within (h : Bytes) : Type 0 where
+    pub fits : length (labels label) ≤ length (labels h)
+    pub alike : Alike (lastOf (length (labels label)) (labels h)) (labels label)
+
+  pub within : (h : Bytes) → endsAtLabel label h ≡ true → Within h
+  unfolding matches
+  within h t =
+      let m = ends-match false label h t in
+      let q = and-eq-true-iff (leb (length (labels label)) (length (labels h))) (allMatch (labels label) (lastOf (length (labels label)) (labels h))) .0 m in
+      record { fits = leb-true (length (labels label)) (length (labels h)) (q .0); alike = sym (all-equal (labels label) (lastOf (length (labels label)) (labels h)) good (q .1)) }
+
+  -- so has the first host
+  pub home : Within host₀
+  home = record { fits = rw names (inside (O .rules) (labels host₀) (O .parts) (O .found)); alike = rw names (own (O .rules) (labels host₀) (O .parts) (O .found)) }
+
+  -- how many labels the public suffix of h has
+  sizeIn : Bytes → ℕ
+  sizeIn h = suffixSize (prevailing (filterBy (matches (labels h)) (O .rules)))
+
+  size-in : (h : Bytes) {n : ℕ} → Found table h n → sizeIn h ≡ n
+  unfolding sizeIn
+  size-in h F = let e : O .rules ≡ F .rules = go (readTable table) (O .read) (F .read) in rw e (F .size)
+    where
+      go : (o : Option (List Rule)) {rs ss : List Rule} → o ≡ some rs → o ≡ some ss → rs ≡ ss
+      go o e f = cc
+
+  home-size : sizeIn host₀ ≡ L .size
+  unfolding sizeIn
+  home-size = L .suffix
+
+  -- the label has one label more than the public suffix
+  pub label-size : {n : ℕ} → Found table host₀ n → length (labels label) ≡ n + 1
+  label-size {n} F =
+      let e : L .size ≡ n = sym home-size ∙ size-in host₀ F in
+      ap length (names ∙ L .is) ∙ length-last (L .size + 1) (labels host₀) (omega (arith, L .below)) ∙ rw e
 
   module _ (h : Bytes) (a : isHost h ≡ true) where
     under : privateLabel table h ≡ (privateLabels (O .rules) (labels h) >>= λ ls. some (joinWith 46 ls))
     unfolding privateLabel labelUnder
     under = rw (a, O .read)
 
-    to-ends : isTheLabel label (privateLabel table h) ≡ true → endsAtLabel label h ≡ true
-    unfolding isTheLabel sameNoCase
-    to-ends t = go (privateLabels (O .rules) (labels h)) refl (rw under at t)
+    record Has : Type 0 where
+      size : sizeIn h ≡ L .size
+      ends : endsAtLabel label h ≡ true
+
+    has : isTheLabel label (privateLabel table h) ≡ true → Has
+    unfolding isTheLabel sameNoCase sizeIn L P
+    has t = go (privateLabels (O .rules) (labels h)) refl (rw under at t)
       where
-        go : (o : Option (List Bytes)) → privateLabels (O .rules) (labels h) ≡ o → isTheLabel label (o >>= λ ls. some (joinWith 46 ls)) ≡ true → endsAtLabel label h ≡ true
+        go : (o : Option (List Bytes)) → privateLabels (O .rules) (labels h) ≡ o → isTheLabel label (o >>= λ ls. some (joinWith 46 ls)) ≡ true → Has
         go none q t = true-false (sym t)
         go (some ms) q t =
             let Q = label-is (O .rules) (labels h) ms q in
             let n : labels (joinWith 46 ms) ≡ ms = rw (Q .is) (last-names h (Q .size + 1) (omega arith)) in
             let e : Alike ms (O .parts) = ap (map lower) (sym n) ∙ names-lower (joinWith 46 ms) label (same-eq (lower (joinWith 46 ms)) (lower label) t) ∙ ap (map lower) names in
-            let f = labels-alike (O .rules) (labels host₀) (O .parts) (O .found) no-deeper (labels h) ms q e in
-            match-ends false label h good (matching (f .0) (f .1))
+            let f = labels-alike (O .rules) (labels host₀) (O .parts) (O .found) (labels h) ms q e in
+            record { size = f .size; ends = match-ends false label h good (matching (f .fits) (f .alike)) }
           where
             matching : length (O .parts) ≤ length (labels h) → Alike (lastOf (length (O .parts)) (labels h)) (O .parts) → matches (labels h) (normal (labels label)) ≡ true
             matching l e = unfold matches in
                 (rw (names, le-leb (length (O .parts)) (length (labels h)) l) (all-matching (O .parts) (lastOf (length (O .parts)) (labels h)) (sym e)))
 
-    from-ends : endsAtLabel label h ≡ true → isTheLabel label (privateLabel table h) ≡ true
-    unfolding isTheLabel sameNoCase matches
-    from-ends t =
-        let m = ends-match false label h t in
-        let q = and-eq-true-iff (leb (length (labels label)) (length (labels h))) (allMatch (labels label) (lastOf (length (labels label)) (labels h))) .0 m in
-        let l : length (O .parts) ≤ length (labels h) = rw names at (leb-true (length (labels label)) (length (labels h)) (q .0)) in
-        let e : Alike (O .parts) (lastOf (length (O .parts)) (labels h)) = rw names at (all-equal (labels label) (lastOf (length (labels label)) (labels h)) good (q .1)) in
-        let f = alike-labels (O .rules) (labels host₀) (O .parts) (O .found) no-deeper (labels h) l (sym e) in
+    from-ends : endsAtLabel label h ≡ true → sizeIn h ≡ L .size → isTheLabel label (privateLabel table h) ≡ true
+    unfolding isTheLabel sameNoCase sizeIn L P
+    from-ends t s =
+        let E = within h t in
+        let l : length (O .parts) ≤ length (labels h) = rw names at (E .fits) in
+        let e : Alike (lastOf (length (O .parts)) (labels h)) (O .parts) = rw names at (E .alike) in
+        let f = alike-labels (O .rules) (labels host₀) (O .parts) (O .found) (labels h) s l e in
         let n : labels (joinWith 46 (lastOf (length (O .parts)) (labels h))) ≡ lastOf (length (O .parts)) (labels h) = last-names h (length (O .parts)) (omega (arith, ap length names, labels-some label)) in
         rw (under, f) (same-refl (lower (joinWith 46 (lastOf (length (O .parts)) (labels h)))) (lower label)
-        (lower-names (joinWith 46 (lastOf (length (O .parts)) (labels h))) label (ap (map lower) n ∙ sym e ∙ ap (map lower) (sym names))))
+        (lower-names (joinWith 46 (lastOf (length (O .parts)) (labels h))) label (ap (map lower) n ∙ e ∙ ap (map lower) (sym names))))
 
-    -- h has the label exactly where it ends in it
-    pub one-label : isTheLabel label (privateLabel table h) ≡ endsAtLabel label h
-    one-label = both-ways (isTheLabel label (privateLabel table h)) (endsAtLabel label h) to-ends from-ends
+    -- a host that ends in the label has it exactly where its public suffix is as long as the first host's
+    pub by-size : {n k : ℕ} → Found table h n → Found table host₀ k → endsAtLabel label h ≡ true → isTheLabel label (privateLabel table h) ≡ eqb n k
+    by-size {n} {k} F G t = both-ways (isTheLabel label (privateLabel table h)) (eqb n k) (λ u. eq-eqb n k (sym (size-in h F) ∙ has u .size ∙ here)) (λ u. from-ends t (size-in h F ∙ eqb-true n k u ∙ sym here))
+      where
+        here : L .size ≡ k
+        here = sym home-size ∙ size-in host₀ G
+
+    -- where no rule goes deeper, h has the label exactly where it ends in it
+    pub one-label : isDeeper table label ≡ false → isTheLabel label (privateLabel table h) ≡ endsAtLabel label h
+    one-label d = both-ways (isTheLabel label (privateLabel table h)) (endsAtLabel label h) (λ t. has t .ends) (λ t. from-ends t (size t))
+      where
+        no-deeper : any (goesDeeper (O .parts)) (O .rules) ≡ false
+        no-deeper = unfold isDeeper deeperIn in (rw (names, O .read) at d)
+
+        size : endsAtLabel label h ≡ true → sizeIn h ≡ L .size
+        size t = unfold sizeIn L P in (let E = within h t in same-size (O .rules) (labels host₀) (O .parts) (O .found) (labels h) no-deeper (rw names at (E .fits)) (rw names at (E .alike)))

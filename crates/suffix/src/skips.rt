@@ -217,7 +217,7 @@ pub(crate) fn short_end(s: &[u8], from: usize) -> usize
 
 // Where a line ends: its LF, or the end; in blocks of 64 bytes while there are so many. The first byte alone before a block: many
 // comments are empty.
-pub(crate) fn line_end(s: &[u8], from: usize) -> usize
+pub fn line_end(s: &[u8], from: usize) -> usize
     ensures { λ r. ⌜ r ≡ from + length (takeWhile inLine (drop from (now (s .entry)))) ⌝ }
 {
     let mut i = from;

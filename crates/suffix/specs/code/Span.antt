@@ -9,9 +9,12 @@ use lib.ListN.{length, take, drop}
 use lib.Dec.{leb}
 use Rattle.ascii.specs.Ascii.{Bytes, if_then_else_, splitAt}
 use Rattle.suffix.specs.Host.{labels}
-use Rattle.suffix.specs.Suffix.{Rule, readLines}
+use Rattle.suffix.specs.Suffix.{Rule, readLines, readTable, privateLabel}
+use Rattle.suffix.specs.code.Pass.{bestOf}
 use Rattle.suffix.specs.code.Deeper.{deeperIn}
 use Rattle.suffix.specs.code.Depth.{deepest}
+use Rattle.suffix.specs.declared.Best.the-variants.{Sizes}
+use Rattle.suffix.specs.declared.Deeper.{Deeper}
 
 -- the lines that begin at a place or behind it; behind the table's end there is none
 unfoldable pub linesFrom : Bytes → ℕ → List Bytes
@@ -34,3 +37,9 @@ pub record Spans (table label : Bytes) (from to : ℕ) : Type 0 where
   pub lines : splitAt (code "\n") table ≡ before ++ (splitAt (code "\n") (take (to - from) (drop from table)) ++ behind)
   pub before-not : deeperIn (labels label) (readLines before) ≡ false
   pub behind-not : deeperIn (labels label) (readLines behind) ≡ false
+
+-- what is held of a host where rules go deeper than its private label: what the table finds for it, and the span of these rules
+pub record Held (table host label : Bytes) (d : Deeper) : Type 0 where
+  pub label-is : privateLabel table host ≡ some label
+  pub found : bestOf (labels host) (readTable table) ≡ Sizes (d .exception) (d .most)
+  pub spans : Spans table label (d .from) (d .to)

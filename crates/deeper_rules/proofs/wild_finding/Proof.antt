@@ -1,0 +1,31 @@
+-- `deeper_rules::wild_finding` meets its contract.
+use Rattle.deeper_rules.proofs.FindingLaws.{finding-laws}
+use Rattle.deeper_rules.proofs.wild_finding.Statement.{statement}
+use Rattle.deeper_rules.proofs.wild_finding.Tie as tie
+
+pub wild-finding-spec : {M : Type 1} → statement M
+wild-finding-spec =
+    tie.close
+    (tie.spec
+    {- sizes-requires -}
+    (λ c κs. search finding-laws)
+    {- returns -}
+    (λ c. search finding-laws)
+    {- ends-at-label-requires -}
+    (λ c κs. search finding-laws)
+    {- label-count-requires -}
+    (λ c κs. search finding-laws)
+    {- add-sizes -}
+    (λ c. search finding-laws)
+    {- sizes-requires-2 -}
+    (λ c κs. search finding-laws)
+    {- returns-2 -}
+    (λ c. search finding-laws)
+    {- sizes-requires-3 -}
+    (λ c κs. search finding-laws)
+    {- returns-3 -}
+    (λ c. search finding-laws)
+    {- sizes-requires-4 -}
+    (λ c κs. search finding-laws)
+    {- returns-4 -}
+    (λ c. search finding-laws))
