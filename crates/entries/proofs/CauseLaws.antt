@@ -15,6 +15,7 @@ use Rattle.origin.specs.declared.Reading.the-variants.{Found, Malformed}
 use Rattle.origin.proofs.Readings.{found, is-none, found-low, found-high}
 use Rattle.origin.proofs.Origins.{origin-read, native-begins, native-not-https, no-https-no-web}
 use Rattle.entries.specs.Causes.{isOtherLabel, cause}
+use Rattle.suffix.specs.declared.Deeper.{Deeper}
 use Rattle.entries.specs.code.Owner.{Owns, Differs, Judges, causeOf}
 use Rattle.entries.specs.declared.Cause.the-variants.{TooLong, OtherScheme, NotFacet, OtherLabel}
 use Rattle.entries.specs.declared.Verdict.the-variants.{Kept, Discarded}
@@ -27,7 +28,7 @@ https-not-native e h = go (isNative e) refl
     go false f = f
     go true f = let z : true ≡ false = sym h ∙ native-not-https e (native-begins e f) in let w : _≡_ {A = ℕ} 0 1 = cc in absurd (omega arith)
 
-module _ (table label : Bytes) (deeper : Bool) (e : Bytes) where
+module _ (table label : Bytes) (deeper : Deeper) (e : Bytes) where
   pub judge-long : {n : ℕ} → n < length e → 512 ≤ n → Judges table label deeper e (Discarded TooLong)
   judge-long h k = record { is = λ appid O. go appid (omega arith) }
     where

@@ -16,11 +16,14 @@ use Rattle.suffix.specs.Host.{isHost}
 use Rattle.suffix.specs.code.Place.{endsAtLabel}
 use Rattle.suffix.specs.Suffix.{readTable, privateLabel, orEmpty}
 use Rattle.suffix.specs.code.Deeper.{isDeeper, isTheLabel}
-use Rattle.suffix.specs.code.Depth.{deeperThan, LabelFound, OwnerIs, bad-table as no-table, owner-is}
+use Rattle.suffix.specs.code.Depth.{deeperThan}
+use Rattle.suffix.specs.code.Span.{OwnerFound, OwnerIs, bad-table as no-table, owner-is}
+use Rattle.suffix.specs.declared.Deeper.{Deeper}
 use Rattle.suffix.specs.declared.Owner.{Owner}
 use Rattle.suffix.specs.declared.Owner.the-variants.{BadTable as Unread, Label as LabelOf}
 use Rattle.suffix.proofs.Speed.{one-label}
 use Rattle.suffix.proofs.Owned.{label-some}
+use Rattle.deeper_rules.specs.code.Findings.{Tells}
 use Rattle.origin.specs.Origin.{Authority, beginsHttps, readHttps, isTail, httpsUrl}
 use Rattle.origin.specs.code.Parts.{part, authorityIn, Reads}
 use Rattle.origin.specs.declared.Parts.{Parts}
@@ -100,19 +103,19 @@ module _ (s : Bytes) (end : ℕ) (table : Bytes) {host : Bytes} {w : Owner} (O :
       go (no-table t) e = bad-table t
       go (owner-is t L) e = let z : _≡_ {A = ℕ} 0 1 = cc in absurd (omega arith)
 
-  module _ {i : ℕ} {d : Bool} (e : w ≡ LabelOf i d) where
+  module _ {i : ℕ} {d : Deeper} (e : w ≡ LabelOf i d) where
     record Found-label : Type 0 where
       good : isNone (readTable table) ≡ false
-      label : LabelFound table host i d
+      label : OwnerFound table host i d
 
     found-label : Found-label
     found-label = go O e
       where
         go : {w : Owner} → OwnerIs table host w → w ≡ LabelOf i d → Found-label
         go (no-table t) e = let z : _≡_ {A = ℕ} 0 1 = cc in absurd (omega arith)
-        go (owner-is {start} {deeper} t L) e =
+        go (owner-is {start} {d = f} t L) e =
             let x : start ≡ i = cc in
-            let y : deeper ≡ d = cc in
+            let y : f ≡ d = cc in
             record { good = t; label = rw (← x, ← y) L }
 
     pub owner-fits : {k : ℕ} → host ≡ take (end - k) (drop k s) → 8 ≤ k → length s < 2 ^ 64 → Fits w64 (8 + i)
@@ -121,10 +124,11 @@ module _ (s : Bytes) (end : ℕ) (table : Bytes) {host : Bytes} {w : Owner} (O :
     pub owner-label : host ≡ take (end - 8) (drop 8 s) → OwnedBy s end table (Is (record { start = 8 + i; end = end; deeper = d }))
     owner-label H =
         let L = found-label .label in
-        owned (found-label .good) (λ E. record {
+        owned {o = record { start = 8 + i; end = end; deeper = d }} (found-label .good) (λ E. record {
           is = record {
             label-is = behind ∙ L .place .is ∙ ap orEmpty (own E);
-            deeper-is = L .deeper-is ∙ ap (deeperThan table) (own E);
+            deeper-is = L .some-is ∙ ap (deeperThan table) (own E);
+            held = λ t. record { host = host; is = rw behind (L .held t) };
           };
         })
       where
@@ -159,15 +163,15 @@ agree-some label none = refl
 agree-some label (some l) = refl
 
 -- the AppID's host, where it has a label
-record Home (appid table label : Bytes) : Type 0 where
+record AppHost (table label : Bytes) : Type 0 where
   host : Bytes
   is : privateLabel table host ≡ some label
 
-home : (appid table : Bytes) {label : Bytes} → appLabel table appid ≡ some label → Home appid table label
+app-host : (appid table : Bytes) {label : Bytes} → appLabel table appid ≡ some label → AppHost table label
 unfolding appLabel
-home appid table {label} e = go (httpsUrl appid) e
+app-host appid table {label} e = go (httpsUrl appid) e
   where
-    go : (o : Option Authority) → (o >>= λ u. privateLabel table (u .host)) ≡ some label → Home appid table label
+    go : (o : Option Authority) → (o >>= λ u. privateLabel table (u .host)) ≡ some label → AppHost table label
     go none e = let z : _≡_ {A = ℕ} 0 1 = cc in absurd (omega arith)
     go (some u) e = record { host = u .host; is = e }
 
@@ -176,30 +180,30 @@ empty-none appid table {label} e n = go (appLabel table appid) refl e
   where
     go : (o : Option Bytes) → appLabel table appid ≡ o → label ≡ orEmpty o → o ≡ none
     go none f e = refl
-    go (some l) f e = let H = home appid table f in absurd (omega (arith, ap length e, label-some table (H .host) l (H .is)))
+    go (some l) f e = let H = app-host appid table f in absurd (omega (arith, ap length e, label-some table (H .host) l (H .is)))
 
-module _ (table label : Bytes) (deeper : Bool) (host : Bytes) where
+module _ (table label : Bytes) (deeper : Deeper) (host : Bytes) where
   pub differs-none : length label ≡ 0 → Differs table label deeper host true
   differs-none n = record { is = λ appid O h. rw (empty-none appid table (O .label-is) n, agree-none (privateLabel table host)) }
 
   module _ (n : length label ≡ 0 → ⊥) {q : Bool} where
-    module _ (d : deeper ≡ true) (e : q ≡ isTheLabel label (privateLabel table host)) where
-      by-lookup : (appid : Bytes) → Owns appid table label deeper → labelsAgree (privateLabel table host) (appLabel table appid) ≡ q
-      by-lookup appid O = rw (some-label (appLabel table appid) (O .label-is) n) (agree-some label (privateLabel table host) ∙ sym e)
+    module _ (d : deeper .some ≡ true) (T : Tells table label deeper host q) where
+      by-lookup : (appid : Bytes) → Owns appid table label deeper → isHost host ≡ true → labelsAgree (privateLabel table host) (appLabel table appid) ≡ q
+      by-lookup appid O h = let H = O .held d in rw (some-label (appLabel table appid) (O .label-is) n) (agree-some label (privateLabel table host) ∙ sym (T .is (H .host) (H .is) h))
 
       pub differs-not : q ≡ true → Differs table label deeper host false
-      differs-not f = record { is = λ appid O h. rw (by-lookup appid O, f) }
+      differs-not f = record { is = λ appid O h. rw (by-lookup appid O h, f) }
 
       pub differs-so : q ≡ false → Differs table label deeper host true
-      differs-so f = record { is = λ appid O h. rw (by-lookup appid O, f) }
+      differs-so f = record { is = λ appid O h. rw (by-lookup appid O h, f) }
 
-    module _ (d : deeper ≡ false) (e : q ≡ endsAtLabel label host) where
+    module _ (d : deeper .some ≡ false) (e : q ≡ endsAtLabel label host) where
       by-end : (appid : Bytes) → Owns appid table label deeper → isHost host ≡ true → labelsAgree (privateLabel table host) (appLabel table appid) ≡ q
       by-end appid O h =
           let a : appLabel table appid ≡ some label = some-label (appLabel table appid) (O .label-is) n in
-          let H = home appid table a in
+          let H = app-host appid table a in
           let z : isDeeper table label ≡ false = sym (deeper-of a) ∙ sym (O .deeper-is) ∙ d in
-          rw a (agree-some label (privateLabel table host) ∙ one-label table (H .host) label (H .is) z host h ∙ sym e)
+          rw a (agree-some label (privateLabel table host) ∙ one-label table (H .host) label (H .is) host h z ∙ sym e)
         where
           deeper-of : appLabel table appid ≡ some label → deeperThan table (appLabel table appid) ≡ isDeeper table label
           deeper-of a = unfold deeperThan in (rw a)

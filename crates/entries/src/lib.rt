@@ -2,6 +2,7 @@
 use json_text::Next;
 use json_text::Progress;
 use origin::Reading;
+use suffix::Deeper;
 ghost use Rattle.entries.specs.code.Owner.{AppIdIs, OwnedBy, Differs, Judges};
 ghost use Rattle.entries.specs.code.Reading.{Decodes, Reads};
 
@@ -14,11 +15,11 @@ pub enum AppId {
     Url(usize),
 }
 
-// Where the AppID's private label begins and ends in it, empty where it has none; and whether a rule goes deeper than it.
+// Where the AppID's private label begins and ends in it, empty where it has none; and the rules that go deeper than it.
 pub struct Owner {
     pub start: usize,
     pub end: usize,
-    pub deeper: bool,
+    pub deeper: Deeper,
 }
 
 pub enum AppOwner {
@@ -43,7 +44,8 @@ pub fn read_appid(appid: &[u8]) -> AppId
     AppId::Foreign
 }
 
-// One pass over the table for the AppID's own host, which stands behind `https://` up to its end.
+// One pass over the table for the AppID's own host, which stands behind `https://` up to its end; two where rules go deeper than
+// its label.
 pub fn find_owner(appid: &[u8], end: usize, table: &[u8]) -> AppOwner
     ensures { λ r. ⌜ OwnedBy (now (appid .entry)) end (now (table .entry)) r ⌝ }
 {
@@ -73,16 +75,16 @@ pub enum Verdict {
     Discarded(Cause),
 }
 
-// The host has no private label, or another one than the AppID. Only where a rule goes deeper than the AppID's label is
-// the table looked up.
-fn is_other_label(host: &[u8], label: &[u8], deeper: bool, table: &[u8]) -> bool
+// The host has no private label, or another one than the AppID. Only where rules go deeper than the AppID's label are their lines
+// looked up.
+fn is_other_label(host: &[u8], label: &[u8], deeper: Deeper, table: &[u8]) -> bool
     ensures { λ r. ⌜ Differs (now (table .entry)) (now (label .entry)) deeper (now (host .entry)) r ⌝ }
 {
     if label.len() == 0 {
         return true;
     }
-    if deeper {
-        if suffix::has_label(host, label, table) {
+    if deeper.some {
+        if deeper_rules::has_label(host, label, deeper, table) {
             return false;
         }
         return true;
@@ -94,7 +96,7 @@ fn is_other_label(host: &[u8], label: &[u8], deeper: bool, table: &[u8]) -> bool
 }
 
 // The first cause that holds of an entry, for the AppID with this label.
-fn judge(entry: &[u8], label: &[u8], deeper: bool, table: &[u8]) -> Verdict
+fn judge(entry: &[u8], label: &[u8], deeper: Deeper, table: &[u8]) -> Verdict
     ensures { λ r. ⌜ Judges (now (table .entry)) (now (label .entry)) deeper (now (entry .entry)) r ⌝ }
 {
     // cause 1's bound

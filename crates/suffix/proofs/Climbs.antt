@@ -16,11 +16,11 @@ use Rattle.suffix.specs.code.Place.{Stands, endsAtLabel}
 use Rattle.suffix.specs.Suffix.{Rule, normal, exceptional, content, isSkipped, readRule, readLines, readTable, allMatch, matches, privateLabel, orEmpty}
 use Rattle.suffix.specs.code.Pass.{maxLabels, sizes, bestOf, oneRule, readLine, inLine, inContent, sizeOf, LabelAt}
 use Rattle.suffix.specs.code.Deeper.{goesDeeper, deeperIn, isDeeper}
-use Rattle.suffix.specs.code.Depth.{depthOf, deepest, lineDepth, linesDepth, depthsOf, Good, Past, deeperThan, LabelFound, OwnerIs, bad-table, owner-is}
+use Rattle.suffix.specs.code.Depth.{depthOf, deepest, lineDepth, linesDepth, depthsOf, Good, Past, deeperThan, LabelFound, LookupIs, unread, looked-up}
 use Rattle.suffix.specs.declared.Best.{Best}
 use Rattle.suffix.specs.declared.Best.the-variants.{Bad, Sizes}
-use Rattle.suffix.specs.declared.Owner.{Owner}
-use Rattle.suffix.specs.declared.Owner.the-variants.{BadTable, Label}
+use Rattle.suffix.specs.declared.Lookup.{Lookup}
+use Rattle.suffix.specs.declared.Lookup.the-variants.{Unread, Found as At}
 use Rattle.suffix.specs.declared.Depths.{Depths}
 use Rattle.suffix.specs.declared.Depths.the-variants.{Wrong, Found}
 use Rattle.suffix.proofs.Ends.{both-ways, true-false, same-eq, labels-some, wild}
@@ -335,12 +335,12 @@ no-label table host L = go (privateLabel table host) refl (sym (drop-length host
     go (some l) p e = absurd (omega (arith, ap length e, label-some table host l p))
 
 module _ (table host : Bytes) where
-  none-found : LabelAt table host (length host) → LabelFound table host (length host) false
+  none-found : {e m : ℕ} → LabelAt table host (length host) → Sizes e m ≡ bestOf (labels host) (readTable table) → LabelFound table host (length host) e m false
   unfolding deeperThan
-  none-found L = record { place = L; deeper-is = rw (no-label table host L) }
+  none-found L b = record { place = L; found = b; deeper-is = rw (no-label table host L) }
 
-  pub owner-bad : {q : Depths} → q ≡ depthsOf (labels host) (readTable table) → q ≡ Wrong → OwnerIs table host BadTable
-  owner-bad t w = bad-table (go (readTable table) (sym w ∙ t))
+  pub lookup-bad : {q : Depths} → q ≡ depthsOf (labels host) (readTable table) → q ≡ Wrong → LookupIs table host Unread
+  lookup-bad t w = unread (go (readTable table) (sym w ∙ t))
     where
       go : (o : Option (List Rule)) → Wrong ≡ depthsOf (labels host) o → o ≡ none
       go none e = refl
@@ -351,16 +351,29 @@ module _ (table host : Bytes) where
   good-table e m d none f = let z : _≡_ {A = ℕ} 0 1 = cc in absurd (omega arith)
   good-table e m d (some rs) f = refl
 
-  pub start-bad : {q : Owner} → OwnerIs table host q → q ≡ BadTable → LabelAt table host (length host)
-  start-bad (bad-table t) e = at-bad table host {q = bestOf (labels host) (readTable table)} refl (rw t none-best)
+  pub start-bad : {q : Lookup} → LookupIs table host q → q ≡ Unread → LabelAt table host (length host)
+  start-bad (unread t) e = at-bad table host {q = bestOf (labels host) (readTable table)} refl (rw t none-best)
     where
       none-best : bestOf (labels host) none ≡ Bad
       none-best = unfold bestOf in refl
-  start-bad (owner-is t L) e = let z : _≡_ {A = ℕ} 0 1 = cc in absurd (omega arith)
+  start-bad (looked-up t L) e = let z : _≡_ {A = ℕ} 0 1 = cc in absurd (omega arith)
 
-  pub start-owner : {q : Owner} {start : ℕ} {deeper : Bool} → OwnerIs table host q → q ≡ Label start deeper → LabelAt table host start
-  start-owner (bad-table t) e = let z : _≡_ {A = ℕ} 0 1 = cc in absurd (omega arith)
-  start-owner {start} (owner-is {start = i} t L) e = let z : i ≡ start = cc in rw (← z) (L .place)
+  -- what a lookup tells of the host
+  pub record Looked (start e m : ℕ) (deeper : Bool) : Type 0 where
+    pub good : isNone (readTable table) ≡ false
+    pub label : LabelFound table host start e m deeper
+
+  pub looked : {q : Lookup} {start e m : ℕ} {deeper : Bool} → LookupIs table host q → q ≡ At start e m deeper → Looked start e m deeper
+  looked (unread t) f = let z : _≡_ {A = ℕ} 0 1 = cc in absurd (omega arith)
+  looked {start = start} {e = e} {m = m} {deeper = deeper} (looked-up {start = i} {e = j} {m = k} {deeper = l} t L) f =
+      let x : i ≡ start = cc in
+      let y : j ≡ e = cc in
+      let z : k ≡ m = cc in
+      let w : l ≡ deeper = cc in
+      record { good = t; label = rw (← x, ← y, ← z, ← w) L }
+
+  pub start-found : {q : Lookup} {start e m : ℕ} {deeper : Bool} → LookupIs table host q → q ≡ At start e m deeper → LabelAt table host start
+  start-found Q f = looked Q f .label .place
 
   pub to-best : (e m d : ℕ) (o : Option (List Rule)) → Found e m d ≡ depthsOf (labels host) o → Sizes e m ≡ bestOf (labels host) o
   unfolding bestOf sizes depthsOf
@@ -385,19 +398,20 @@ module _ (table host : Bytes) where
     best : Sizes e m ≡ bestOf (labels host) (readTable table)
     best = to-best e m d (readTable table) (sym t′ ∙ t)
 
-    pub owner-malformed : {a : Bool} → a ≡ isHost host → a ≡ false → OwnerIs table host (Label (length host) false)
-    owner-malformed h h′ = owner-is good-is (none-found (at-malformed table host h h′))
+    pub lookup-malformed : {a : Bool} → a ≡ isHost host → a ≡ false → LookupIs table host (At (length host) e m false)
+    lookup-malformed h h′ = looked-up good-is (none-found (at-malformed table host h h′) best)
 
-    pub owner-address : {b : Bool} → b ≡ isAddress (labels host) → b ≡ true → OwnerIs table host (Label (length host) false)
-    owner-address i i′ = owner-is good-is (none-found (at-address table host i i′))
+    pub lookup-address : {b : Bool} → b ≡ isAddress (labels host) → b ≡ true → LookupIs table host (At (length host) e m false)
+    lookup-address i i′ = looked-up good-is (none-found (at-address table host i i′) best)
 
     module _ {a b : Bool} {n k : ℕ} (h : a ≡ isHost host) (h′ : a ≡ true) (i : b ≡ isAddress (labels host)) (i′ : b ≡ false) (s : n ≡ sizeOf e m) (c : k ≡ length (labels host)) where
-      pub owner-whole : k ≤ n → OwnerIs table host (Label (length host) false)
-      owner-whole l = owner-is good-is (none-found (at-whole table host h h′ i i′ best refl s c l))
+      pub lookup-whole : k ≤ n → LookupIs table host (At (length host) e m false)
+      lookup-whole l = looked-up good-is (none-found (at-whole table host h h′ i i′ best refl s c l) best)
 
-      label-owner : {r : ℕ} → n < k → Stands (lastOf (n + 1) (labels host)) host r → OwnerIs table host (Label r (ltb n d))
-      label-owner l S = owner-is good-is (record {
+      label-lookup : {r : ℕ} → n < k → Stands (lastOf (n + 1) (labels host)) host r → LookupIs table host (At r e m (ltb n d))
+      label-lookup l S = looked-up good-is (record {
         place = at-label table host h h′ i i′ best refl s c l S;
+        found = best;
         deeper-is = leb-ltb n d ∙ to-depth e m d (n + 1) (readTable table) (sym t′ ∙ t) (omega arith) (omega arith)
             ∙ sym (rw (labelled table host h h′ i i′ best refl s c l) deep);
       })
@@ -405,7 +419,7 @@ module _ (table host : Bytes) where
           deep : deeperThan table (some (joinWith 46 (lastOf (n + 1) (labels host)))) ≡ deeperIn (lastOf (n + 1) (labels host)) (readTable table)
           deep = unfold deeperThan isDeeper in (ap (λ (ls : List Bytes). deeperIn ls (readTable table)) (last-names host (n + 1) (omega arith)))
 
-  -- facts without the names of the answers that tell them, so that only the first premise of `owner-label` holds unknowns
+  -- facts without the names of the answers that tell them, so that only the first premise of `lookup-label` holds unknowns
   pub found-told : {q : Depths} {e m d : ℕ} → q ≡ Found e m d → q ≡ depthsOf (labels host) (readTable table) → Found e m d ≡ depthsOf (labels host) (readTable table)
   found-told t′ t = sym t′ ∙ t
 
@@ -415,9 +429,9 @@ module _ (table host : Bytes) where
   pub fewer-told : {n k : ℕ} → k ≡ length (labels host) → n < k → n < length (labels host)
   fewer-told c l = omega arith
 
-  pub owner-label : {e m d n r : ℕ} → n ≡ sizeOf e m → Found e m d ≡ depthsOf (labels host) (readTable table)
-      → isHost host ≡ true → isAddress (labels host) ≡ false → n < length (labels host) → Stands (lastOf (n + 1) (labels host)) host r → OwnerIs table host (Label r (ltb n d))
-  owner-label s t h i l S = label-owner t refl refl h refl i s refl l S
+  pub lookup-label : {e m d n r : ℕ} → n ≡ sizeOf e m → Found e m d ≡ depthsOf (labels host) (readTable table)
+      → isHost host ≡ true → isAddress (labels host) ≡ false → n < length (labels host) → Stands (lastOf (n + 1) (labels host)) host r → LookupIs table host (At r e m (ltb n d))
+  lookup-label s t h i l S = label-lookup t refl refl h refl i s refl l S
 
 pub wild-goes-is : (v w : Bytes) {q : Bool} → isHost w ≡ true → q ≡ endsAtLabel v w → q ≡ goesDeeper (labels v) (normal ((42 ∷ []) ∷ labels w))
 wild-goes-is v w h e = e ∙ wild-goes v w h

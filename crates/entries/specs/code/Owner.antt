@@ -7,6 +7,8 @@ use Rattle.ascii.specs.Ascii.{Bytes, isNone}
 use Rattle.suffix.specs.Host.{isHost}
 use Rattle.suffix.specs.Suffix.{readTable, privateLabel, orEmpty}
 use Rattle.suffix.specs.code.Depth.{deeperThan}
+use Rattle.suffix.specs.code.Span.{Held}
+use Rattle.suffix.specs.declared.Deeper.{Deeper}
 use Rattle.origin.specs.Origin.{Authority, beginsHttps, httpsUrl}
 use Rattle.origin.specs.code.Parts.{part}
 use Rattle.entries.specs.AppId.{isBadAppId, appLabel}
@@ -33,10 +35,16 @@ pub data AppIdIs (appid : Bytes) : AppId → Type 0 where
   is-foreign : isBadAppId appid ≡ false → beginsHttps appid ≡ false → AppIdIs appid Foreign
   is-url : {end : ℕ} → isBadAppId appid ≡ false → beginsHttps appid ≡ true → HostEnds appid end → AppIdIs appid (Url end)
 
--- label is the AppID's private label, empty where it has none, and deeper tells whether a rule goes deeper than it
-pub record Owns (appid table label : Bytes) (deeper : Bool) : Type 0 where
+-- what is held of a host with this private label
+pub record Home (table label : Bytes) (deeper : Deeper) : Type 0 where
+  pub host : Bytes
+  pub is : Held table host label deeper
+
+-- label is the AppID's private label, empty where it has none; deeper tells whether a rule goes deeper than it, and what is held then
+pub record Owns (appid table label : Bytes) (deeper : Deeper) : Type 0 where
   pub label-is : label ≡ orEmpty (appLabel table appid)
-  pub deeper-is : deeper ≡ deeperThan table (appLabel table appid)
+  pub deeper-is : deeper .some ≡ deeperThan table (appLabel table appid)
+  pub held : deeper .some ≡ true → Home table label deeper
 
 -- the same, where the label stands in the AppID between two places
 pub record Owned (appid table : Bytes) (o : Owner) : Type 0 where
@@ -54,9 +62,9 @@ causeOf Kept = none
 causeOf (Discarded c) = some c
 
 -- r tells whether the host has no private label, or another one than the AppID
-pub record Differs (table label : Bytes) (deeper : Bool) (host : Bytes) (r : Bool) : Type 0 where
+pub record Differs (table label : Bytes) (deeper : Deeper) (host : Bytes) (r : Bool) : Type 0 where
   pub is : (appid : Bytes) → Owns appid table label deeper → isHost host ≡ true → r ≡ not (labelsAgree (privateLabel table host) (appLabel table appid))
 
 -- r is the first cause that holds of the entry
-pub record Judges (table label : Bytes) (deeper : Bool) (entry : Bytes) (r : Verdict) : Type 0 where
+pub record Judges (table label : Bytes) (deeper : Deeper) (entry : Bytes) (r : Verdict) : Type 0 where
   pub is : (appid : Bytes) → Owns appid table label deeper → causeOf r ≡ cause appid table entry

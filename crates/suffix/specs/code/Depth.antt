@@ -8,12 +8,13 @@ use lib.ListN.{length}
 use Rattle.ascii.specs.Ascii.{Bytes, if_then_else_, isNone, filterBy, lastOf}
 use Rattle.suffix.specs.Host.{labels}
 use Rattle.suffix.specs.Suffix.{Rule, content, readTable, matches, privateLabel}
-use Rattle.suffix.specs.code.Pass.{maxLabels, readLine, LabelAt}
+use Rattle.suffix.specs.code.Pass.{maxLabels, bestOf, readLine, LabelAt}
 use Rattle.suffix.specs.code.Deeper.{goesDeeper, isDeeper}
 use Rattle.suffix.specs.declared.Depths.{Depths}
 use Rattle.suffix.specs.declared.Depths.the-variants.{Wrong, Found}
-use Rattle.suffix.specs.declared.Owner.{Owner}
-use Rattle.suffix.specs.declared.Owner.the-variants.{BadTable, Label}
+use Rattle.suffix.specs.declared.Best.the-variants.{Sizes}
+use Rattle.suffix.specs.declared.Lookup.{Lookup}
+use Rattle.suffix.specs.declared.Lookup.the-variants.{Unread, Found as At}
 
 -- the most last labels of the host that the rule goes deeper than
 unfoldable pub depthOf : List Bytes → Rule → ℕ
@@ -56,11 +57,12 @@ unfoldable pub deeperThan : Bytes → Option Bytes → Bool
 deeperThan table none = false
 deeperThan table (some label) = isDeeper table label
 
--- where the label begins, and whether a rule goes deeper
-pub record LabelFound (table host : Bytes) (start : ℕ) (deeper : Bool) : Type 0 where
+-- where the label begins, what the table finds for the host, and whether a rule goes deeper
+pub record LabelFound (table host : Bytes) (start e m : ℕ) (deeper : Bool) : Type 0 where
   pub place : LabelAt table host start
+  pub found : Sizes e m ≡ bestOf (labels host) (readTable table)
   pub deeper-is : deeper ≡ deeperThan table (privateLabel table host)
 
-pub data OwnerIs (table host : Bytes) : Owner → Type 0 where
-  bad-table : readTable table ≡ none → OwnerIs table host BadTable
-  owner-is : {start : ℕ} {deeper : Bool} → isNone (readTable table) ≡ false → LabelFound table host start deeper → OwnerIs table host (Label start deeper)
+pub data LookupIs (table host : Bytes) : Lookup → Type 0 where
+  unread : readTable table ≡ none → LookupIs table host Unread
+  looked-up : {start e m : ℕ} {deeper : Bool} → isNone (readTable table) ≡ false → LabelFound table host start e m deeper → LookupIs table host (At start e m deeper)

@@ -1,20 +1,22 @@
 -- The rules that go deeper than a private label stand in one span of the table's lines.
 use mathlib.Core.Path.{_≡_}
 use mathlib.Core.List.{List, [], _++_}
-use mathlib.Core.Bool.{false}
-use mathlib.Core.Option.{some}
+use mathlib.Core.Bool.{true, false}
+use mathlib.Core.Option.{none, some}
 use Prim.Native.Nat.{ℕ, _-_, _≤_}
 use Prim.Native.Char.{code}
 use lib.ListN.{length, take, drop}
 use lib.Dec.{leb}
-use Rattle.ascii.specs.Ascii.{Bytes, if_then_else_, splitAt}
+use Rattle.ascii.specs.Ascii.{Bytes, if_then_else_, isNone, splitAt}
 use Rattle.suffix.specs.Host.{labels}
 use Rattle.suffix.specs.Suffix.{Rule, readLines, readTable, privateLabel}
-use Rattle.suffix.specs.code.Pass.{bestOf}
+use Rattle.suffix.specs.code.Pass.{bestOf, LabelAt}
 use Rattle.suffix.specs.code.Deeper.{deeperIn}
-use Rattle.suffix.specs.code.Depth.{deepest}
+use Rattle.suffix.specs.code.Depth.{deepest, deeperThan}
 use Rattle.suffix.specs.declared.Best.the-variants.{Sizes}
 use Rattle.suffix.specs.declared.Deeper.{Deeper}
+use Rattle.suffix.specs.declared.Owner.{Owner}
+use Rattle.suffix.specs.declared.Owner.the-variants.{BadTable, Label}
 
 -- the lines that begin at a place or behind it; behind the table's end there is none
 unfoldable pub linesFrom : Bytes → ℕ → List Bytes
@@ -43,3 +45,13 @@ pub record Held (table host label : Bytes) (d : Deeper) : Type 0 where
   pub label-is : privateLabel table host ≡ some label
   pub found : bestOf (labels host) (readTable table) ≡ Sizes (d .exception) (d .most)
   pub spans : Spans table label (d .from) (d .to)
+
+-- where the label begins, whether a rule goes deeper, and what is held then
+pub record OwnerFound (table host : Bytes) (start : ℕ) (d : Deeper) : Type 0 where
+  pub place : LabelAt table host start
+  pub some-is : d .some ≡ deeperThan table (privateLabel table host)
+  pub held : d .some ≡ true → Held table host (drop start host) d
+
+pub data OwnerIs (table host : Bytes) : Owner → Type 0 where
+  bad-table : readTable table ≡ none → OwnerIs table host BadTable
+  owner-is : {start : ℕ} {d : Deeper} → isNone (readTable table) ≡ false → OwnerFound table host start d → OwnerIs table host (Label start d)

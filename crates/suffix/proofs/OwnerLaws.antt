@@ -1,0 +1,62 @@
+-- The owner: its label, and what is held where rules go deeper. Assumes nothing.
+use mathlib.Core.Path.{_≡_, refl, sym, ap, _∙_}
+use mathlib.Core.Bool.{Bool, true, false}
+use mathlib.Core.List.{List, [], append-nil}
+use native.Mathlib.Omega.{arith}
+use mathlib.Core.Option.{Option, none, some}
+use Prim.Native.Nat.{ℕ, _-_, _≤_}
+use lib.ListN.{length, take, drop}
+use borrow.Author.Needs.{needs}
+use Rattle.ascii.specs.Ascii.{Bytes, isNone, any, splitAt}
+use Rattle.suffix.specs.code.Deeper.{deeperIn}
+use Rattle.suffix.specs.Suffix.{readLines, readTable, privateLabel, orEmpty}
+use Rattle.suffix.specs.code.Depth.{deeperThan, LookupIs, unread, looked-up}
+use Rattle.suffix.specs.code.Span.{Spans, Held, OwnerIs, bad-table, owner-is}
+use Rattle.suffix.specs.declared.Lookup.{Lookup}
+use Rattle.suffix.specs.declared.Lookup.the-variants.{Unread, Found as At}
+use Rattle.suffix.specs.declared.Owner.the-variants.{BadTable, Label}
+use Rattle.suffix.proofs.Ends.{true-false}
+use Rattle.suffix.proofs.Lines.{rest-whole}
+use Rattle.suffix.proofs.Climbs.{Looked, looked}
+
+module _ {table host : Bytes} {q : Lookup} (Q : LookupIs table host q) where
+  pub owner-bad : q ≡ Unread → OwnerIs table host BadTable
+  owner-bad e = go Q e
+    where
+      go : {q : Lookup} → LookupIs table host q → q ≡ Unread → OwnerIs table host BadTable
+      go (unread t) e = bad-table t
+      go (looked-up t L) e = let z : _≡_ {A = Bool} true false = cc in true-false z
+
+  module _ {start e m : ℕ} {deeper : Bool} (f : q ≡ At start e m deeper) where
+    L : Looked table host start e m deeper
+    L = looked table host Q f
+
+    pub owner-good : isNone (readTable table) ≡ false
+    owner-good = L .good
+
+    pub owner-start : start ≤ length host
+    owner-start = L .label .place .inside
+
+    pub owner-label : deeper ≡ false → OwnerIs table host (Label start (record { some = false; exception = e; most = m; from = 0; to = 0 }))
+    owner-label d = owner-is (L .good) (record { place = L .label .place; some-is = sym d ∙ L .label .deeper-is; held = λ t. true-false (sym t) })
+
+    -- a label that a rule goes deeper than is one
+    some-label : deeper ≡ true → privateLabel table host ≡ some (drop start host)
+    some-label d = go (privateLabel table host) (sym (L .label .deeper-is) ∙ d) (L .label .place .is)
+      where
+        go : (o : Option Bytes) → deeperThan table o ≡ true → drop start host ≡ orEmpty o → o ≡ some (drop start host)
+        go none a b = unfold deeperThan in (true-false (sym a))
+        go (some l) a b = ap some (sym b)
+
+    pub owner-deeper : {i j : ℕ} → deeper ≡ true → Spans table (take (length host - start) (drop start host)) i j → OwnerIs table host (Label start (record { some = true; exception = e; most = m; from = i; to = j }))
+    owner-deeper d S = owner-is (L .good) (record {
+      place = L .label .place;
+      some-is = sym d ∙ L .label .deeper-is;
+      held = λ t. record { label-is = some-label d; found = sym (L .label .found); spans = rw (rest-whole host start) at S };
+    })
+
+pub stub-whole : (table label : Bytes) → Spans table label 0 (length table)
+unfolding deeperIn readLines any
+stub-whole table label = record { before = []; behind = []; onward = omega arith; inside = omega arith; lines = rw (rest-whole table 0) (sym (append-nil (splitAt 10 table))); before-not = refl; behind-not = refl }
+
+pub ruleset owner-laws = (stub-whole, owner-bad, owner-good, owner-start, owner-label, owner-deeper, needs)
