@@ -219,9 +219,12 @@ finds-unlike host w h p n =
 pub tail-more : (host : Bytes) (d : ℕ) {n r : ℕ} → d < n → n ≡ length (labels host) → Stands (lastOf (d + 1) (labels host)) host r → Stands (lastOf (suc d) (labels host)) host r
 tail-more host d {r = r} h e S = rw (add-one) at S
 
-pub tail-whole : (host : Bytes) (d : ℕ) {n : ℕ} → n ≤ d → n ≡ length (labels host) → Stands (lastOf (suc d) (labels host)) host 0
+pub stands-whole : (host : Bytes) (k : ℕ) → length (labels host) ≤ k → Stands (lastOf k (labels host)) host 0
 unfolding lastOf labels
-tail-whole host d h e = let z : length (splitAt 46 host) - suc d ≡ 0 = omega (arith, e) in record { inside = omega arith; is = rw z (sym (join-split 46 host)) }
+stands-whole host k h = let z : length (splitAt 46 host) - k ≡ 0 = omega (arith, h) in record { inside = omega arith; is = rw z (sym (join-split 46 host)) }
+
+pub tail-whole : (host : Bytes) (d : ℕ) {n : ℕ} → n ≤ d → n ≡ length (labels host) → Stands (lastOf (suc d) (labels host)) host 0
+tail-whole host d h e = stands-whole host (suc d) (omega (arith, e))
 
 join-small : (m n : ℕ) (b : Best) → n ≤ m → joinBest (Sizes 0 m) (joinBest (Sizes 0 n) b) ≡ joinBest (Sizes 0 m) b
 join-small m n b h = let z : max m n ≡ m = omega arith in join-join 0 m 0 n b ∙ rw z

@@ -2,5 +2,6 @@ pub mod Pass
 pub mod Depth
 pub mod Span
 pub mod Idle
+pub mod Search
 pub mod Place
 pub mod Deeper
