@@ -50,7 +50,7 @@ last-cons : (j : ℕ) (l : Bytes) (ls : List Bytes) → j ≤ length ls → last
 unfolding lastOf
 last-cons j l ls h = let e : suc (length ls) - j ≡ suc (length ls - j) = omega arith in rw e
 
-last-whole : (ls : List Bytes) → lastOf (length ls) ls ≡ ls
+pub last-whole : (ls : List Bytes) → lastOf (length ls) ls ≡ ls
 unfolding lastOf
 last-whole ls = let e : length ls - length ls ≡ 0 = omega arith in rw e
 

@@ -6,14 +6,12 @@ use mathlib.Core.Option.{Option, none, some}
 use Prim.Native.Nat.{ℕ, max}
 use native.Mathlib.Omega.{arith}
 use lib.Dec.{eqb}
-use borrow.Author.Tests.{eqb-true, eq-eqb}
+use borrow.Author.Tests.{eq-eqb}
 use Rattle.ascii.specs.Ascii.{Bytes, if_then_else_, _>>=_, joinHead, splitAt}
 use Rattle.ascii.proofs.Split.{Parts, split-parts}
 use Rattle.suffix.specs.Suffix.{Rule, content, isSkipped, readRule, readLines}
 use Rattle.suffix.specs.code.Pass.{bestOf, joinBest, readLine}
-use Rattle.suffix.specs.code.Depth.{depthOf, deepest}
-use Rattle.suffix.specs.declared.Best.{Best}
-use Rattle.suffix.specs.declared.Best.the-variants.{Bad, Sizes}
+use Rattle.suffix.specs.code.Depth.{deepest}
 use Rattle.suffix.proofs.Passes.{lines-step, none-sizes, join-zero, join-assoc}
 
 -- the lines of two texts with an LF between

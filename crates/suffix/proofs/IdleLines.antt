@@ -26,16 +26,23 @@ use Rattle.suffix.proofs.Shapes.{host-empty}
 use Rattle.suffix.proofs.Lines.{no-host, rule-host, host-yes, host-no, begins-is, other-read, line-empty, line-comment}
 use Rattle.suffix.proofs.Passes.{join-zero, join-join, lines-at, lines-on}
 use Rattle.suffix.proofs.Deepens.{name-not, name-ends}
-use Rattle.suffix.proofs.Climbs.{shallow, depth-one, lines-more, lines-done, depth-empty, depth-comment}
+use Rattle.suffix.proofs.PassedLines.{passed-none, passed-on, passed-more, passed-line}
+use Rattle.suffix.proofs.Climbs.{shallow, depth-one, lines-more, lines-done, line-good, depth-empty, depth-comment}
 use Rattle.suffix.proofs.PlainHosts.{no-plain, dot-plain}
 
 -- ---- places
 
 pub idle-none : (host table : Bytes) (at : ℕ) → at ≤ length table + 1 → Idle host table at at
-idle-none host table at h = record { onward = omega arith; inside = h; best = refl; depth = refl }
+idle-none host table at h = record { onward = omega arith; inside = h; best = refl; depth = refl; passed = passed-none host table at }
 
 pub idle-on : (host table : Bytes) {from at to : ℕ} → Idle host table from at → Idle host table at to → Idle host table from to
-idle-on host table I J = record { onward = omega (arith, I .onward, J .onward); inside = J .inside; best = I .best ∙ J .best; depth = I .depth ∙ J .depth }
+idle-on host table I J = record {
+  onward = omega (arith, I .onward, J .onward);
+  inside = J .inside;
+  best = I .best ∙ J .best;
+  depth = I .depth ∙ J .depth;
+  passed = passed-on (I .passed) (J .passed);
+}
 
 -- one line that finds nothing
 pub idle-line : (host table : Bytes) (at to : ℕ) → at ≤ length table → to ≡ at + length (takeWhile inLine (drop at table))
@@ -47,6 +54,7 @@ idle-line host table at to h g b d =
       inside = omega (arith, scan-to inLine table at to g h);
       best = lines-at (labels host) table at to g ∙ rw (← b) (join-zero (bestOf (labels host) (readLines (splitAt 10 (drop (to + 1) table)))));
       depth = omega (arith, s, d);
+      passed = passed-line host table 0 at to h g (line-good (labels host) (takeWhile inContent (drop at table)) b refl) (omega (arith, d));
     }
 
 -- ---- comments and empty lines
@@ -211,9 +219,12 @@ finds-unlike host w h p n =
 pub tail-more : (host : Bytes) (d : ℕ) {n r : ℕ} → d < n → n ≡ length (labels host) → Stands (lastOf (d + 1) (labels host)) host r → Stands (lastOf (suc d) (labels host)) host r
 tail-more host d {r = r} h e S = rw (add-one) at S
 
-pub tail-whole : (host : Bytes) (d : ℕ) {n : ℕ} → n ≤ d → n ≡ length (labels host) → Stands (lastOf (suc d) (labels host)) host 0
+pub stands-whole : (host : Bytes) (k : ℕ) → length (labels host) ≤ k → Stands (lastOf k (labels host)) host 0
 unfolding lastOf labels
-tail-whole host d h e = let z : length (splitAt 46 host) - suc d ≡ 0 = omega (arith, e) in record { inside = omega arith; is = rw z (sym (join-split 46 host)) }
+stands-whole host k h = let z : length (splitAt 46 host) - k ≡ 0 = omega (arith, h) in record { inside = omega arith; is = rw z (sym (join-split 46 host)) }
+
+pub tail-whole : (host : Bytes) (d : ℕ) {n : ℕ} → n ≤ d → n ≡ length (labels host) → Stands (lastOf (suc d) (labels host)) host 0
+tail-whole host d h e = stands-whole host (suc d) (omega (arith, e))
 
 join-small : (m n : ℕ) (b : Best) → n ≤ m → joinBest (Sizes 0 m) (joinBest (Sizes 0 n) b) ≡ joinBest (Sizes 0 m) b
 join-small m n b h = let z : max m n ≡ m = omega arith in join-join 0 m 0 n b ∙ rw z
@@ -226,10 +237,23 @@ shallow-line host table m d at to h g F =
       inside = omega (arith, scan-to inLine table at to g h);
       best = ap (joinBest (Sizes 0 m)) (lines-at (labels host) table at to g) ∙ rw (← F .best) (join-small m (F .size) (bestOf (labels host) (readLines (splitAt 10 (drop (to + 1) table)))) (F .small));
       depth = omega (arith, s, F .depth);
+      passed = passed-line host table d at to h g (line-good (labels host) (takeWhile inContent (drop at table)) (F .best) refl) (F .depth);
     }
 
 pub shallow-of : {host table : Bytes} (m d : ℕ) {from to : ℕ} → Idle host table from to → Shallow host table m d from to
-shallow-of m d I = record { onward = I .onward; inside = I .inside; best = ap (joinBest (Sizes 0 m)) (I .best); depth = ap (max d) (I .depth) }
+shallow-of m d I = record {
+  onward = I .onward;
+  inside = I .inside;
+  best = ap (joinBest (Sizes 0 m)) (I .best);
+  depth = ap (max d) (I .depth);
+  passed = passed-more (omega arith) (I .passed);
+}
 
 pub shallow-on : {host table : Bytes} {m d from at to : ℕ} → Shallow host table m d from at → Shallow host table m d at to → Shallow host table m d from to
-shallow-on I J = record { onward = omega (arith, I .onward, J .onward); inside = J .inside; best = I .best ∙ J .best; depth = I .depth ∙ J .depth }
+shallow-on I J = record {
+  onward = omega (arith, I .onward, J .onward);
+  inside = J .inside;
+  best = I .best ∙ J .best;
+  depth = I .depth ∙ J .depth;
+  passed = passed-on (I .passed) (J .passed);
+}

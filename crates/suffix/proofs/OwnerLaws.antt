@@ -1,15 +1,12 @@
 -- The owner: its label, and what is held where rules go deeper. Assumes nothing.
 use mathlib.Core.Path.{_≡_, refl, sym, ap, _∙_}
 use mathlib.Core.Bool.{Bool, true, false}
-use mathlib.Core.List.{List, [], append-nil}
-use native.Mathlib.Omega.{arith}
 use mathlib.Core.Option.{Option, none, some}
 use Prim.Native.Nat.{ℕ, _-_, _≤_}
 use lib.ListN.{length, take, drop}
 use borrow.Author.Needs.{needs}
-use Rattle.ascii.specs.Ascii.{Bytes, isNone, any, splitAt}
-use Rattle.suffix.specs.code.Deeper.{deeperIn}
-use Rattle.suffix.specs.Suffix.{readLines, readTable, privateLabel, orEmpty}
+use Rattle.ascii.specs.Ascii.{Bytes, isNone}
+use Rattle.suffix.specs.Suffix.{readTable, privateLabel, orEmpty}
 use Rattle.suffix.specs.code.Depth.{deeperThan, LookupIs, unread, looked-up}
 use Rattle.suffix.specs.code.Span.{Spans, Held, OwnerIs, bad-table, owner-is}
 use Rattle.suffix.specs.declared.Lookup.{Lookup}
@@ -55,8 +52,4 @@ module _ {table host : Bytes} {q : Lookup} (Q : LookupIs table host q) where
       held = λ t. record { label-is = some-label d; found = sym (L .label .found); spans = rw (rest-whole host start) at S };
     })
 
-pub stub-whole : (table label : Bytes) → Spans table label 0 (length table)
-unfolding deeperIn readLines any
-stub-whole table label = record { before = []; behind = []; onward = omega arith; inside = omega arith; lines = rw (rest-whole table 0) (sym (append-nil (splitAt 10 table))); before-not = refl; behind-not = refl }
-
-pub ruleset owner-laws = (stub-whole, owner-bad, owner-good, owner-start, owner-label, owner-deeper, needs)
+pub ruleset owner-laws = (owner-bad, owner-good, owner-start, owner-label, owner-deeper, needs)

@@ -11,13 +11,14 @@ use mir.Syntax.{w64}
 use lib.ListN.{length, getD, take, drop, drop-of-length-le}
 use lib.Seq.{drop-cons}
 use lib.Dec.{eqb, ltb}
-use borrow.Author.Tests.{eq-eqb, ne-eqb, eqb-true, le-leb, ltb-true, ltb-false, not-false}
+use borrow.Author.Tests.{eq-eqb, ne-eqb, eqb-true, le-leb, lt-leb, ltb-true, ltb-false, not-false}
 use Rattle.ascii.specs.Ascii.{Bytes, if_then_else_, _>>=_, filterBy, takeWhile, dropWhile, splitAt}
 use Rattle.ascii.proofs.Scan.{while-stops, scan-rest, scan-part, scan-to}
 use Rattle.ascii.proofs.Split.{onFirst, split-while, on-first-end, on-first-here}
 use Rattle.suffix.specs.Host.{labels}
 use Rattle.suffix.specs.Suffix.{Rule, isBlank, content, isSkipped, readRule, readLines, readTable, matches}
 use Rattle.suffix.specs.code.Pass.{maxLabels, sizes, bestOf, joinBest, oneRule, readLine, inLine, inContent}
+use Rattle.suffix.specs.code.Span.{linesFrom}
 use Rattle.suffix.specs.declared.Best.{Best}
 use Rattle.suffix.specs.declared.Best.the-variants.{Bad, Sizes}
 
@@ -133,7 +134,7 @@ while-while f g (b ∷ l) = go (f b) (g b) refl refl (while-while f g l)
     go true false e h ih = rw h
     go false v e h ih = refl
 
-content-is : (l : Bytes) → content (takeWhile inLine l) ≡ takeWhile inContent l
+pub content-is : (l : Bytes) → content (takeWhile inLine l) ≡ takeWhile inContent l
 unfolding content inContent
 content-is l = while-while inLine (λ b. not (isBlank b)) l
 
@@ -161,41 +162,46 @@ is-lf : (b : ℕ) → inLine b ≡ false → b ≡ 10
 unfolding inLine
 is-lf b e = eqb-true b 10 (not-false (eqb b 10) e)
 
-module _ (host : List Bytes) (s : Bytes) (at to : ℕ) (g : to ≡ at + length (takeWhile inLine (drop at s))) where
-  pub lines-at : bestOf host (readLines (splitAt 10 (drop at s))) ≡ joinBest (bestOf host (readLine (takeWhile inContent (drop at s)))) (bestOf host (readLines (splitAt 10 (drop (to + 1) s))))
-  lines-at = rw (split-while inLine 10 lf-ends (drop at s), ← scan-rest inLine s at to g) (go (ltb to (length s)) refl)
-    where
-      go : (u : Bool) → ltb to (length s) ≡ u → bestOf host (readLines (onFirst (takeWhile inLine (drop at s)) (splitAt 10 (drop to s))))
-          ≡ joinBest (bestOf host (readLine (takeWhile inContent (drop at s)))) (bestOf host (readLines (splitAt 10 (drop (to + 1) s))))
-      go true e =
-          let l = ltb-true to (length s) e in
-          let b : getD s to 0 ≡ 10 = is-lf (getD s to 0) (while-stops inLine (drop at s) (getD s to 0) (drop (suc to) s) (sym (scan-rest inLine s at to g) ∙ drop-cons s to 0 l)) in
-          rw (add-one, drop-cons s to 0 l, b, on-first-here 10 (takeWhile inLine (drop at s)) (drop (suc to) s), ← content-is (drop at s))
-          (lines-step host (takeWhile inLine (drop at s)) (splitAt 10 (drop (suc to) s)))
-      go false e =
-          let l = ltb-false to (length s) e in
-          let k : length s ≤ to + 1 = omega arith in
-          rw (drop-of-length-le s l, drop-of-length-le s k, on-first-end 10 (takeWhile inLine (drop at s)), ← content-is (drop at s), none-left host)
-          (lines-step host (takeWhile inLine (drop at s)) [])
+-- a line ends at an LF or at the end
+pub line-stops : (s : Bytes) (at to : ℕ) → to ≡ at + length (takeWhile inLine (drop at s)) → to < length s → getD s to 0 ≡ 10
+line-stops s at to g l = is-lf (getD s to 0) (while-stops inLine (drop at s) (getD s to 0) (drop (suc to) s) (sym (scan-rest inLine s at to g) ∙ drop-cons s to 0 l))
 
--- the same for any finding f of lines that goes line by line
+pub lines-in : (s : Bytes) (at : ℕ) → at ≤ length s → linesFrom s at ≡ splitAt 10 (drop at s)
+unfolding linesFrom
+lines-in s at h = rw (le-leb at (length s) h)
+
+pub lines-out : (s : Bytes) (at : ℕ) → length s < at → linesFrom s at ≡ []
+unfolding linesFrom
+lines-out s at h = rw (lt-leb at (length s) h)
+
+-- the line at a place, and those behind it
+pub lines-cut : (s : Bytes) (at to : ℕ) → to ≡ at + length (takeWhile inLine (drop at s)) → splitAt 10 (drop at s) ≡ takeWhile inLine (drop at s) ∷ linesFrom s (to + 1)
+lines-cut s at to g = rw (split-while inLine 10 lf-ends (drop at s), ← scan-rest inLine s at to g) (go (ltb to (length s)) refl)
+  where
+    go : (u : Bool) → ltb to (length s) ≡ u → onFirst (takeWhile inLine (drop at s)) (splitAt 10 (drop to s)) ≡ takeWhile inLine (drop at s) ∷ linesFrom s (to + 1)
+    go true e =
+        let l = ltb-true to (length s) e in
+        rw (lines-in s (to + 1) (omega arith), add-one, drop-cons s to 0 l, line-stops s at to g l, on-first-here 10 (takeWhile inLine (drop at s)) (drop (suc to) s))
+    go false e =
+        let l = ltb-false to (length s) e in
+        rw (lines-out s (to + 1) (omega arith), drop-of-length-le s l, on-first-end 10 (takeWhile inLine (drop at s)))
+
+-- any finding f of lines that goes line by line
 module _ {A : Type 0} (f : List Bytes → A) (one : Bytes → A) (op : A → A → A) (step : (l : Bytes) (ls : List Bytes) → f (l ∷ ls) ≡ op (one (content l)) (f ls)) (done : f (splitAt 10 []) ≡ f [])
     (s : Bytes) (at to : ℕ) (g : to ≡ at + length (takeWhile inLine (drop at s))) where
   pub lines-on : f (splitAt 10 (drop at s)) ≡ op (one (takeWhile inContent (drop at s))) (f (splitAt 10 (drop (to + 1) s)))
-  lines-on = rw (split-while inLine 10 lf-ends (drop at s), ← scan-rest inLine s at to g) (go (ltb to (length s)) refl)
+  lines-on = rw (lines-cut s at to g, ← content-is (drop at s), ← rest (ltb (length s) (to + 1)) refl) (step (takeWhile inLine (drop at s)) (linesFrom s (to + 1)))
     where
-      go : (u : Bool) → ltb to (length s) ≡ u → f (onFirst (takeWhile inLine (drop at s)) (splitAt 10 (drop to s)))
-          ≡ op (one (takeWhile inContent (drop at s))) (f (splitAt 10 (drop (to + 1) s)))
-      go true e =
-          let l = ltb-true to (length s) e in
-          let b : getD s to 0 ≡ 10 = is-lf (getD s to 0) (while-stops inLine (drop at s) (getD s to 0) (drop (suc to) s) (sym (scan-rest inLine s at to g) ∙ drop-cons s to 0 l)) in
-          rw (add-one, drop-cons s to 0 l, b, on-first-here 10 (takeWhile inLine (drop at s)) (drop (suc to) s), ← content-is (drop at s))
-          (step (takeWhile inLine (drop at s)) (splitAt 10 (drop (suc to) s)))
-      go false e =
-          let l = ltb-false to (length s) e in
+      rest : (u : Bool) → ltb (length s) (to + 1) ≡ u → f (linesFrom s (to + 1)) ≡ f (splitAt 10 (drop (to + 1) s))
+      rest true e =
+          let l = ltb-true (length s) (to + 1) e in
           let k : length s ≤ to + 1 = omega arith in
-          rw (drop-of-length-le s l, drop-of-length-le s k, on-first-end 10 (takeWhile inLine (drop at s)), ← content-is (drop at s), done)
-          (step (takeWhile inLine (drop at s)) [])
+          rw (lines-out s (to + 1) l, drop-of-length-le s k, done)
+      rest false e = rw (lines-in s (to + 1) (ltb-false (length s) (to + 1) e))
+
+pub lines-at : (host : List Bytes) (s : Bytes) (at to : ℕ) → to ≡ at + length (takeWhile inLine (drop at s))
+    → bestOf host (readLines (splitAt 10 (drop at s))) ≡ joinBest (bestOf host (readLine (takeWhile inContent (drop at s)))) (bestOf host (readLines (splitAt 10 (drop (to + 1) s))))
+lines-at host = lines-on (λ ls. bestOf host (readLines ls)) (λ l. bestOf host (readLine l)) joinBest (lines-step host) (none-left host)
 
 -- where the next line begins, in two scans
 pub next-line : (s : Bytes) (at to k : ℕ) → to ≡ at + length (takeWhile inContent (drop at s)) → k ≡ to + length (takeWhile inLine (drop to s)) → k ≡ at + length (takeWhile inLine (drop at s))

@@ -1,6 +1,7 @@
 pub mod Pass
 pub mod Depth
+pub mod Span
 pub mod Idle
+pub mod Search
 pub mod Place
 pub mod Deeper
-pub mod Span

@@ -11,6 +11,7 @@ use Rattle.suffix.specs.code.Place.{Stands}
 use Rattle.suffix.specs.Suffix.{readLines}
 use Rattle.suffix.specs.code.Pass.{bestOf, joinBest, inLine, inContent}
 use Rattle.suffix.specs.code.Depth.{linesDepth}
+use Rattle.suffix.specs.code.Span.{Passed}
 use Rattle.suffix.specs.declared.Best.the-variants.{Sizes}
 use Rattle.suffix.specs.declared.skips.Step.{Step}
 use Rattle.suffix.specs.declared.skips.Step.the-variants.{On, Off}
@@ -23,6 +24,8 @@ pub record Idle (host table : Bytes) (from to : ℕ) : Type 0 where
   pub inside : to ≤ length table + 1
   pub best : bestOf (labels host) (readLines (splitAt (code "\n") (drop from table))) ≡ bestOf (labels host) (readLines (splitAt (code "\n") (drop to table)))
   pub depth : linesDepth (labels host) (splitAt (code "\n") (drop from table)) ≡ linesDepth (labels host) (splitAt (code "\n") (drop to table))
+  -- which lines these are
+  pub passed : Passed host table 0 from to
 
 -- the same for every host: comments and empty lines
 pub record Skipped (table : Bytes) (from to : ℕ) : Type 0 where
@@ -95,3 +98,5 @@ pub record Shallow (host table : Bytes) (m d from to : ℕ) : Type 0 where
   pub inside : to ≤ length table + 1
   pub best : joinBest (Sizes 0 m) (bestOf (labels host) (readLines (splitAt (code "\n") (drop from table)))) ≡ joinBest (Sizes 0 m) (bestOf (labels host) (readLines (splitAt (code "\n") (drop to table))))
   pub depth : max d (linesDepth (labels host) (splitAt (code "\n") (drop from table))) ≡ max d (linesDepth (labels host) (splitAt (code "\n") (drop to table)))
+  -- which lines these are
+  pub passed : Passed host table d from to

@@ -1,0 +1,62 @@
+// The span of the table's lines that has every rule deeper than a label.
+use crate::content_end;
+use crate::hosts;
+use crate::line_depth;
+use crate::skips;
+ghost use mathlib.Core.Path.{_≡_};
+ghost use mathlib.Core.Bool.{false};
+ghost use Prim.Native.Nat.{_-_};
+ghost use Rattle.ascii.specs.Ascii.{isNone};
+ghost use Rattle.suffix.specs.Suffix.{readTable};
+ghost use Rattle.suffix.specs.code.Span.{Spans};
+ghost use Rattle.suffix.specs.code.Search.{Seeks, Sought};
+
+// Where lines of a table begin and end.
+pub struct Span {
+    pub from: usize,
+    pub to: usize,
+}
+
+// The first line from a place on that has a rule deeper than the label, whose labels are `count`; the table's end or behind it where
+// there is none. No rule that matches the label has more labels than these, so none stops the pass over other lines.
+fn next_deeper(kinds: &[u8; 256], label: &[u8], count: usize, table: &[u8], from: usize) -> usize
+    requires { ⌜ Seeks (now kinds) (now label) (now table) count from ⌝ }
+    ensures { λ r. ⌜ Sought (now (label .entry)) (now (table .entry)) (count - 1) from r ⌝ }
+{
+    let depth = count - 1;
+    let mut at = skips::idle_lines(kinds, label, count, depth, 0, table, from);
+    while at < table.len() {
+        let to = content_end(table, at);
+        if depth < line_depth(label, label, depth, &table[at..to]) {
+            return at;
+        }
+        let next = skips::short_end(table, at) + 1;
+        at = skips::idle_lines(kinds, label, count, depth, 0, table, next);
+    }
+    at
+}
+
+// The span from the first line with a rule deeper than the label to the last one; the whole of a table without such a line.
+pub(crate) fn find_span(label: &[u8], table: &[u8]) -> Span
+    requires { ⌜ isNone (readTable (now table)) ≡ false ⌝ }
+    ensures { λ r. ⌜ Spans (now (table .entry)) (now (label .entry)) (r .from) (r .to) ⌝ }
+{
+    let classes = ascii::classes();
+    let kinds = skips::kinds(&classes, label);
+    let count = hosts::label_count(label);
+    let from = next_deeper(&kinds, label, count, table, 0);
+    if table.len() <= from {
+        return Span {
+            from: 0,
+            to: table.len(),
+        };
+    }
+    let mut to = skips::line_end(table, from);
+    let mut at = next_deeper(&kinds, label, count, table, to + 1);
+    while at < table.len() {
+        let end = skips::line_end(table, at);
+        at = next_deeper(&kinds, label, count, table, end + 1);
+        to = end;
+    }
+    Span { from, to }
+}
