@@ -1,4 +1,5 @@
 //! Tests of cleaning and tally.
 
 mod cases;
+mod deeper;
 mod generated;
