@@ -3,3 +3,4 @@
 mod cases;
 mod deeper;
 mod generated;
+mod published;
