@@ -39,6 +39,11 @@ pub fn owners<'a>(table: &'a str, list: &List) -> BTreeMap<&'a str, Owner<'a>> {
     owners
 }
 
+/// The name of a rule, a label in place of its `*`.
+pub fn name(rule: &str) -> String {
+    rule.trim_start_matches('!').replacen('*', "s", 1)
+}
+
 /// An AppID with this label: on the host `www` below it, or on the label where that host has another.
 pub fn appid(list: &List, label: &str) -> String {
     let www = format!("www.{label}");

@@ -5,7 +5,7 @@ use super::{
     list,
     table::{join, labels, line_of, rule, BAD_LINES},
 };
-use crate::random::Random;
+use crate::{owners::name, random::Random};
 
 /// Private labels, each with the rules it comes from. With no match the rule `*` prevails.
 const LABELS: [(&str, &[&str]); 9] = [
@@ -32,9 +32,9 @@ fn below(random: &mut Random, name: &str) -> String {
     String::from_utf8(labels(random, 1, 2)).expect("ASCII") + "." + name
 }
 
-/// Hosts at a rule, below it and beside it; a label stands in for its `*`.
+/// Hosts at a rule, below it and beside it.
 pub fn around(rule: &str) -> Vec<String> {
-    let name = rule.trim_start_matches('!').replacen('*', "s", 1);
+    let name = name(rule);
     let mut hosts =
         vec![format!("a.{name}"), format!("a.b.{name}"), format!("x{name}"), format!("a.x{name}")];
     if let Some((_, parent)) = name.split_once('.') {
