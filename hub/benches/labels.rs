@@ -8,7 +8,7 @@ mod timing;
 use facets_hub::private_label;
 use publicsuffix::{List, Psl};
 use std::{ffi::CString, hint::black_box};
-use timing::{timed, HOW};
+use timing::{timed, ALL, HOW};
 
 /// libpsl by its C calls; needs Debian's package libpsl-dev.
 mod libpsl {
@@ -58,7 +58,7 @@ mod libpsl {
 }
 
 fn nanoseconds<T>(call: impl FnMut() -> T) -> f64 {
-    timed(call).1
+    timed(ALL, call).1
 }
 
 fn main() {

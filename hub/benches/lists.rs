@@ -8,14 +8,16 @@ mod inputs;
 #[path = "../tests/hub/published.rs"]
 mod published;
 mod reference;
+mod rows;
 mod timing;
 
 use facets_hub::{clean, decide, private_label, tally, Answer, Inputs, Refusal};
 use inputs::{Body, Table, VERSION};
 use publicsuffix::List;
 use reference::{label_length, Reference};
-use std::{env, fmt::Debug, hint::black_box};
-use timing::{timed, HOW};
+use rows::{microseconds, Wanted};
+use std::{fmt::Debug, hint::black_box};
+use timing::{timed, ALL, HOW};
 
 const NO_LIST: &str = "-";
 
@@ -26,12 +28,6 @@ const NATIVE_NONE: (&str, &str) = ("decide, native, no entry", "ios:bundle-id:co
 const WEB_FIRST: (&str, &str) = ("decide, web, second entry", "https://first.");
 const WEB_LAST: (&str, &str) = ("decide, web, last entry but one", "https://last.");
 const WEB_NONE: (&str, &str) = ("decide, web, no entry", "https://none.");
-
-/// A time, three digits of it at least.
-fn microseconds(nanoseconds: f64) -> String {
-    let decimals = if nanoseconds < 10_000.0 { 2 } else { usize::from(nanoseconds < 100_000.0) };
-    format!("{:.decimals$}", nanoseconds / 1000.0)
-}
 
 /// The rows of one table and list.
 struct Rows<'a> {
@@ -49,7 +45,7 @@ impl Rows<'_> {
 
     /// Times both programs and asserts that they give the same.
     fn row<T: PartialEq + Debug>(&mut self, call: &str, ours: impl FnMut() -> T, other: impl FnMut() -> T) {
-        let ((ours, time), (others, other_time)) = (timed(ours), timed(other));
+        let ((ours, time), (others, other_time)) = (timed(ALL, ours), timed(ALL, other));
         assert_eq!(ours, others, "{}, {}, {call}", self.table.name, self.list);
         let ratio = time / other_time;
         self.print(call, &microseconds(time), &microseconds(other_time), &format!("{ratio:.1}"));
@@ -77,7 +73,7 @@ impl Rows<'_> {
         for host in ["www.example.com", "www.example.co.uk", "x00000.example.com", &longest] {
             self.label(host);
         }
-        let (_, reading) = timed(|| self.table.other.parse::<List>().is_ok());
+        let (_, reading) = timed(ALL, || self.table.other.parse::<List>().is_ok());
         self.print("reading the table before", "", &microseconds(reading), "");
     }
 
@@ -158,33 +154,12 @@ fn callers(table: &Table, list: &str) -> Vec<(&'static str, &'static str)> {
     }
 }
 
-/// What the command line names, or all where it names none.
-struct Wanted(Vec<String>);
-
-impl Wanted {
-    fn new(tables: &[Table], lists: &[&Body]) -> Wanted {
-        // Cargo itself passes `--bench`.
-        let named: Vec<String> = env::args().skip(1).filter(|argument| !argument.starts_with('-')).collect();
-        let tables = tables.iter().map(|table| table.name);
-        let names: Vec<&str> = tables.chain(lists.iter().map(|body| body.name)).chain(["label"]).collect();
-        let unknown = named.iter().find(|named| !names.contains(&named.as_str()));
-        assert_eq!(unknown, None, "it is none of {names:?}");
-        Wanted(named)
-    }
-
-    /// Whether the name is wanted of these names.
-    fn has(&self, of: &[&str], name: &str) -> bool {
-        let of = |named: &&String| of.contains(&named.as_str());
-        self.0.iter().any(|named| named == name) || !self.0.iter().any(|named| of(&named))
-    }
-}
-
 fn main() {
     let (tables, common, worst) = (inputs::tables(), inputs::common("example.com"), inputs::worst());
     let lists: Vec<&Body> = common.iter().chain(&worst).collect();
-    let wanted = Wanted::new(&tables, &lists);
     let table_names: Vec<&str> = tables.iter().map(|table| table.name).collect();
     let list_names: Vec<&str> = lists.iter().map(|body| body.name).chain(["label"]).collect();
+    let wanted = Wanted::new(&[&table_names[..], &list_names].concat());
 
     for table in &tables {
         println!("table {}: {}; {} bytes", table.name, table.what, table.text.len());

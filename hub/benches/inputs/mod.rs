@@ -1,13 +1,15 @@
 //! The tables and lists of the benchmark, each for the AppID `https://www.OWNER/appID` of the table's owner.
 
+mod body;
+
 use crate::published;
+use body::{body, full, BODY_MAX};
+pub use body::{Body, VERSION};
 use publicsuffix::List;
 
 /// The owner with most tables.
 const OWNER: &str = "example.com";
 
-pub const VERSION: (u16, u16) = (1, 0);
-const BODY_MAX: usize = 65_536;
 const TABLE_MAX: usize = 1_048_576;
 
 /// A suffix table: its text for the library, and as the other program has read it before.
@@ -73,36 +75,6 @@ pub fn tables() -> Vec<Table> {
             format!("x{n:05}.example.com\n")
         }),
     ]
-}
-
-pub struct Body {
-    pub name: &'static str,
-    pub what: &'static str,
-    pub entries: usize,
-    pub text: String,
-}
-
-/// A list of version 1.0 with these strings, as they are written.
-fn body(name: &'static str, what: &'static str, ids: &[String]) -> Body {
-    let text = format!(
-        r#"{{"trustedFacets":[{{"version":{{"major":1,"minor":0}},"ids":["{}"]}}]}}"#,
-        ids.join("\",\"")
-    );
-    Body { name, what, entries: ids.len(), text }
-}
-
-/// The same with as many entries as fit.
-fn full(name: &'static str, what: &'static str, ids: impl Fn(usize) -> Vec<String>) -> Body {
-    let (mut fits, mut too_many) = (5, BODY_MAX);
-    while too_many - fits > 1 {
-        let count = (fits + too_many) / 2;
-        if body(name, what, &ids(count)).text.len() <= BODY_MAX {
-            fits = count;
-        } else {
-            too_many = count;
-        }
-    }
-    body(name, what, &ids(fits))
 }
 
 /// A native identity first and last, web origins between them, most of them kept.

@@ -1,16 +1,10 @@
 //! Generated and damaged inputs beside the model.
 
 use crate::{
-    case::Case,
-    check, hand,
-    make::{
-        case::{self, CLEANINGS},
-        identifier::{origin, url},
-        table::labels,
-    },
+    check,
+    make::case::{self, CLEANINGS},
     model::{
         cleaning::Inputs,
-        decision::code,
         identifier::{facet, url_host, Facet},
         list, suffix, Refused,
     },
@@ -104,60 +98,4 @@ fn generated_cleanings_and_tallies_beside_the_model() {
     let all = cleanings.values().chain(tallies.values()).copied().chain(counts.map(|count| count as usize));
     let all = all.chain([empty, deep]);
     assert!(all.min() >= Some(1_000), "fewer than 1,000 of one");
-}
-
-/// A host below a name: so many labels before it, none at times.
-fn below(random: &mut Random, name: &str) -> String {
-    match random.below(5) {
-        0 => name.to_owned(),
-        _ => String::from_utf8(labels(random, 1, 3)).expect("ASCII") + "." + name,
-    }
-}
-
-/// Lists all about one owner, and tables with rules below it, where each host needs a look at the table.
-#[test]
-fn generated_lists_under_deeper_rules_beside_the_model() {
-    const ROUNDS: usize = 20_000;
-    let mut random = Random::new(8);
-    let (mut counts, mut deep) = ([0; 5], 0);
-    let mut codes: BTreeMap<u16, usize> = BTreeMap::new();
-    for _ in 0..ROUNDS {
-        let owner = random.pick(&["b.c", "B.c", "a-1.b.c"]);
-        let mut rules = vec![owner.split_once('.').expect("a dot").1.to_owned()];
-        for _ in 0..random.below(12) {
-            let mark = random.pick(&["", "", "", "*.", "!"]);
-            rules.push(mark.to_owned() + &below(&mut random, owner));
-        }
-        // Names too long for a rule would make the table bad.
-        rules.retain(|rule| rule.len() < 250 && rule.split('.').all(|label| label.len() < 63));
-        let first = random.below(rules.len());
-        rules.rotate_left(first);
-        let entries: Vec<String> = (0..1 + random.below(16))
-            .map(|_| {
-                let host = below(&mut random, owner);
-                origin(&mut random, &host)
-            })
-            .collect();
-        let app = if random.chance(60) { owner.to_owned() } else { below(&mut random, owner) };
-        let case = Case {
-            caller: entries[random.below(entries.len())].clone().into(),
-            appid: url(&mut random, &app).into(),
-            table: rules.join("\n").into(),
-            ..hand::case(&entries)
-        };
-        *codes.entry(code(check::decision(&case))).or_default() += 1;
-        let length = case.cleaning().list().map_or(100, |list| list.len());
-        let _ = check::cleaning(&case, &vec![b'#'; length - 1]);
-        let _ = check::cleaning(&case, &vec![b'#'; length + random.below(2)]);
-        for (sum, count) in counts.iter_mut().zip(check::tallying(&case).unwrap_or_default()) {
-            *sum += count;
-        }
-        deep += deeper(&case.cleaning());
-    }
-    println!("{ROUNDS} lists under deeper rules: decisions {codes:?}; kept and causes 1 to 4: {counts:?}");
-    println!("{deep} entries end in the AppID's label and have another");
-    assert!(counts[0] >= 10_000 && counts[4] >= 10_000 && deep >= 10_000);
-    for code in [3, 4, 114] {
-        assert!(codes.get(&code) >= Some(&1_000), "decisions {code}");
-    }
 }

@@ -1,6 +1,7 @@
 //! Inputs made by repeatable random choices.
 
 pub mod case;
+pub mod deeper;
 pub mod identifier;
 pub mod json;
 pub mod list;

@@ -33,7 +33,7 @@ pub fn labels(random: &mut Random, least: usize, most: usize) -> Vec<u8> {
     name
 }
 
-fn rule(random: &mut Random) -> Vec<u8> {
+pub fn rule(random: &mut Random) -> Vec<u8> {
     match random.below(10) {
         0..=3 => labels(random, 1, 3),
         4..=5 => [b"*.".to_vec(), labels(random, 1, 4)].concat(),
@@ -45,6 +45,11 @@ fn rule(random: &mut Random) -> Vec<u8> {
 /// A line that makes no table bad.
 pub fn line(random: &mut Random) -> Vec<u8> {
     let rule = rule(random);
+    line_of(random, rule)
+}
+
+/// A line with this rule: mostly the rule alone; else with bytes behind it, in a comment, behind a blank, or empty.
+pub fn line_of(random: &mut Random, rule: Vec<u8>) -> Vec<u8> {
     match random.below(12) {
         0 => [random.pick(&[&b"// "[..], b"//", b"//\xc3\xbc\0"]), &rule].concat(),
         1 => [random.pick(&[&b" "[..], b"\t", b"\r"]), &rule].concat(),

@@ -32,8 +32,8 @@ pub enum Kind {
 }
 
 pub struct Rule {
-    kind: Kind,
-    labels: Vec<Label>,
+    pub kind: Kind,
+    pub labels: Vec<Label>,
 }
 
 /// The rules of a table; nothing where it is bad or too long.
@@ -44,21 +44,23 @@ pub fn table(bytes: &[u8]) -> Option<Vec<Rule>> {
     }
     let mut rules = Vec::new();
     // Lines end at LF or at the end.
-    for line in bytes.split(|&b| b == b'\n') {
-        // A line is read up to its first space, tab or CR.
-        let line: Vec<u8> = line.iter().copied().take_while(|b| !b" \t\r".contains(b)).collect();
-        // Nothing left, or a line beginning `//`, is skipped.
-        if line.is_empty() || line.starts_with(b"//") {
-            continue;
-        }
+    for line in bytes.split(|&b| b == b'\n').filter_map(content) {
         // Another line makes the table bad.
         rules.push(rule(&line)?);
     }
     Some(rules)
 }
 
+/// What is read of a line; nothing where it is skipped.
+pub fn content(line: &[u8]) -> Option<Vec<u8>> {
+    // A line is read up to its first space, tab or CR.
+    let line: Vec<u8> = line.iter().copied().take_while(|b| !b" \t\r".contains(b)).collect();
+    // Nothing left, or a line beginning `//`, is skipped.
+    (!line.is_empty() && !line.starts_with(b"//")).then_some(line)
+}
+
 /// Otherwise it is a rule: a host; or `*`; or `*.` and a host; or `!` and a host of two labels or more.
-fn rule(line: &[u8]) -> Option<Rule> {
+pub fn rule(line: &[u8]) -> Option<Rule> {
     // A rule's name without `!` has at most 253 bytes.
     let name = line.strip_prefix(b"!").unwrap_or(line);
     if name.len() > 253 {
@@ -82,7 +84,7 @@ fn rule(line: &[u8]) -> Option<Rule> {
 impl Rule {
     /// A rule matches a host that has at least as many labels and whose last labels equal the rule's, `*`
     /// equalling any one label.
-    fn matches(&self, host: &[Label]) -> bool {
+    pub fn matches(&self, host: &[Label]) -> bool {
         // Hosts and labels compare without regard to ASCII case.
         let equal = |(r, h): (&Label, &Label)| r == b"*" || r.eq_ignore_ascii_case(h);
         host.len() >= self.labels.len() && self.labels.iter().rev().zip(host.iter().rev()).all(equal)
