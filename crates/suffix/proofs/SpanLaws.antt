@@ -12,7 +12,7 @@ use lib.ListN.{length, getD, take, drop, take-append-drop, drop-of-length-le, le
 use lib.Seq.{drop-cons, drop-drop, take-all}
 use lib.Dec.{leb, ltb}
 use borrow.Author.Needs.{needs}
-use borrow.Author.Tests.{lt-leb, leb-true, ltb-true, ltb-false}
+use borrow.Author.Tests.{lt-leb, lt-ltb, leb-true, ltb-true, ltb-false}
 use Rattle.ascii.specs.Ascii.{Bytes, if_then_else_, _>>=_, isNone, any, takeWhile, splitAt}
 use Rattle.ascii.proofs.Scan.{scan-part, scan-from, scan-to}
 use Rattle.suffix.specs.Host.{labels}
@@ -23,7 +23,7 @@ use Rattle.suffix.specs.code.Depth.{deepest, lineDepth, Good, Past}
 use Rattle.suffix.specs.code.Idle.{KindsOf, Passes, Shallow}
 use Rattle.suffix.specs.code.Span.{linesFrom, Passed, Spans}
 use Rattle.suffix.specs.code.Search.{Seeks, Sought}
-use Rattle.suffix.proofs.Ends.{true-false, labels-some}
+use Rattle.suffix.proofs.Ends.{both-ways, true-false, labels-some}
 use Rattle.suffix.proofs.Lines.{rest-whole}
 use Rattle.suffix.proofs.Passes.{content-is, line-stops, lines-in, lines-out, lines-cut}
 use Rattle.suffix.proofs.Cuts.{split-both, read-both}
@@ -59,6 +59,19 @@ good-both ks ls g = go (readLines ks) (readLines ls) (ap isNone (sym (read-both 
 
 -- ---- one line after another
 
+-- what is read of the line at a place
+module _ (table : Bytes) (at : ℕ) {to : ℕ} (g : to ≡ at + length (takeWhile inContent (drop at table))) where
+  pub part-good : Good (takeWhile inContent (drop at table)) → Good (take (to - at) (drop at table))
+  part-good G = rw (scan-part inContent table at to g) G
+
+  pub part-deeper : (hl : List Bytes) (d : ℕ) {q : ℕ} → q ≡ max d (lineDepth hl (readLine (take (to - at) (drop at table)))) → ltb d q ≡ ltb d (lineDepth hl (readLine (takeWhile inContent (drop at table))))
+  part-deeper hl d e = rw (e, scan-part inContent table at to g) (beyond d (lineDepth hl (readLine (takeWhile inContent (drop at table)))))
+    where
+      beyond : (d n : ℕ) → ltb d (max d n) ≡ ltb d n
+      beyond d n = both-ways (ltb d (max d n)) (ltb d n) (λ t. let x = ltb-true d (max d n) t in lt-ltb d n (omega arith)) (λ t. let x = ltb-true d n t in lt-ltb d (max d n) (omega arith))
+
+pub ruleset line-laws = (part-start, part-end, part-good, part-deeper, needs)
+
 pub seeks-lends : {kinds label table : Bytes} {n from : ℕ} → Seeks kinds label table n from → Passes kinds label table (n - 1) 0 from
 seeks-lends {label} {n = n} S = record {
   kinds-are = S .kinds-are;
@@ -84,17 +97,14 @@ module _ {kinds label table : Bytes} {n from at : ℕ} (R : Seeking kinds label 
   pub seeking-ends : Sought label table (n - 1) from at
   seeking-ends = R .sought
 
-  here-good : at < length table → Good (takeWhile inContent (drop at table))
-  here-good l =
+  pub seeking-good : at < length table → Good (takeWhile inContent (drop at table))
+  seeking-good l =
       let P = R .sought .passed in
       let k = at + length (takeWhile inLine (drop at table)) in
       let a = good-both (P .lines) (linesFrom table at) (ap (λ (ls : List Bytes). isNone (readLines ls)) (sym (P .are)) ∙ R .lent .good) .1 in
       let c : linesFrom table at ≡ (takeWhile inLine (drop at table) ∷ []) ++ linesFrom table (k + 1) = lines-in table at (omega arith) ∙ lines-cut table at k refl in
       let b = good-both (takeWhile inLine (drop at table) ∷ []) (linesFrom table (k + 1)) (ap (λ (ls : List Bytes). isNone (readLines ls)) (sym c) ∙ a) .0 in
       record { is = ap isNone (sym (read-one (takeWhile inLine (drop at table)) ∙ ap readLine (content-is (drop at table)))) ∙ b }
-
-  pub seeking-good : {to : ℕ} → to ≡ at + length (takeWhile inContent (drop at table)) → at < length table → Good (take (to - at) (drop at table))
-  seeking-good {to} g l = rw (scan-part inContent table at to g) (here-good l)
 
   module _ {k : ℕ} (i : k ≡ at + length (takeWhile inLine (drop at table))) (l : at < length table) where
     pub seeking-fits : Fits w64 (k + 1)
@@ -110,20 +120,19 @@ module _ {kinds label table : Bytes} {n from at : ℕ} (R : Seeking kinds label 
       pub seeking-less : length table - next < length table - at
       seeking-less = omega (arith, i, l, I .onward)
 
-      pub seeking-more : {to q : ℕ} → q ≡ max (n - 1) (lineDepth (labels label) (readLine (take (to - at) (drop at table)))) → q ≤ n - 1 → to ≡ at + length (takeWhile inContent (drop at table))
-          → Seeking kinds label table n from next
-      seeking-more {to} e h g =
-          let d : lineDepth (labels label) (readLine (takeWhile inContent (drop at table))) ≤ n - 1 = rw (← scan-part inContent table at to g) (omega (arith, e, h)) in
+      pub seeking-more : {b : Bool} → b ≡ ltb (n - 1) (lineDepth (labels label) (readLine (takeWhile inContent (drop at table)))) → b ≡ false → Seeking kinds label table n from next
+      seeking-more e f =
+          let d = ltb-false (n - 1) (lineDepth (labels label) (readLine (takeWhile inContent (drop at table)))) (sym e ∙ f) in
           record {
             lent = R .lent;
             sought = record {
               onward = omega (arith, R .sought .onward, i, I .onward);
               inside = I .inside;
-              passed = passed-on (R .sought .passed) (passed-on (passed-line label table (n - 1) at k (omega arith) i (here-good l) d) (I .passed));
+              passed = passed-on (R .sought .passed) (passed-on (passed-line label table (n - 1) at k (omega arith) i (seeking-good l) d) (I .passed));
             };
           }
 
-pub ruleset seek-laws = (seeks-lends, seeking-starts, seeking-past, seeking-ends, seeking-good, seeking-fits, seeking-lends, seeking-less, seeking-more, part-start, part-end, needs)
+pub ruleset seek-laws = (seeks-lends, seeking-starts, seeking-past, seeking-ends, seeking-good, seeking-fits, seeking-lends, seeking-less, seeking-more, needs)
 
 -- ---- the span
 
@@ -247,4 +256,7 @@ spanning-ends {label} {table} {n} {from} {to} {at} R h c =
     behind-read : readLines (linesFrom table (to + 1)) ≡ some (R .behind .passed .rules ++ [])
     behind-read = ap readLines (R .behind .passed .are) ∙ read-both (R .behind .passed .lines) (linesFrom table at) ∙ rw (R .behind .passed .read, last-lines table at h)
 
-pub ruleset span-laws = (seeks-first, behind-fits, seeks-behind, spanning-starts, spanning-less, spanning-more, span-whole, spanning-ends, needs)
+pub ruleset span-laws = (seeks-first, behind-fits, seeks-behind, spanning-starts, spanning-less, span-whole, needs)
+
+-- of the turns and the last return of `find_span` alone, so that a search that fails tries every way
+pub ruleset turn-laws = (spanning-more, spanning-ends)

@@ -5,9 +5,14 @@ use crate::line_depth;
 use crate::skips;
 ghost use mathlib.Core.Path.{_≡_};
 ghost use mathlib.Core.Bool.{false};
-ghost use Prim.Native.Nat.{_-_};
-ghost use Rattle.ascii.specs.Ascii.{isNone};
+ghost use Prim.Native.Nat.{_-_, _<_};
+ghost use lib.ListN.{length, drop};
+ghost use lib.Dec.{ltb};
+ghost use Rattle.ascii.specs.Ascii.{isNone, takeWhile};
+ghost use Rattle.suffix.specs.Host.{labels};
 ghost use Rattle.suffix.specs.Suffix.{readTable};
+ghost use Rattle.suffix.specs.code.Pass.{readLine, inContent};
+ghost use Rattle.suffix.specs.code.Depth.{lineDepth, Good, Past};
 ghost use Rattle.suffix.specs.code.Span.{Spans};
 ghost use Rattle.suffix.specs.code.Search.{Seeks, Sought};
 
@@ -15,6 +20,15 @@ ghost use Rattle.suffix.specs.code.Search.{Seeks, Sought};
 pub struct Span {
     pub from: usize,
     pub to: usize,
+}
+
+// The good line at a place has a rule that goes deeper than more labels than the depth, one less than all.
+fn line_is_deeper(label: &[u8], depth: usize, table: &[u8], at: usize) -> bool
+    requires { ⌜ Past (now label) (now label) depth × Good (takeWhile inContent (drop at (now table))) × (at < length (now table)) ⌝ }
+    ensures { λ r. ⌜ r ≡ ltb depth (lineDepth (labels (now (label .entry))) (readLine (takeWhile inContent (drop at (now (table .entry)))))) ⌝ }
+{
+    let to = content_end(table, at);
+    depth < line_depth(label, label, depth, &table[at..to])
 }
 
 // The first line from a place on that has a rule deeper than the label, whose labels are `count`; the table's end or behind it where
@@ -26,8 +40,7 @@ fn next_deeper(kinds: &[u8; 256], label: &[u8], count: usize, table: &[u8], from
     let depth = count - 1;
     let mut at = skips::idle_lines(kinds, label, count, depth, 0, table, from);
     while at < table.len() {
-        let to = content_end(table, at);
-        if depth < line_depth(label, label, depth, &table[at..to]) {
+        if line_is_deeper(label, depth, table, at) {
             return at;
         }
         let next = skips::short_end(table, at) + 1;

@@ -2,7 +2,7 @@
 use Prim.Native.Nat.{_-_}
 use lib.ListN.{length}
 use Rattle.suffix.proofs.SpanLaws.{Spanning}
-use Rattle.suffix.proofs.SpanLaws.{span-laws}
+use Rattle.suffix.proofs.SpanLaws.{span-laws, turn-laws}
 use Rattle.suffix.proofs.spans.find_span.Statement.{statement}
 use Rattle.suffix.proofs.spans.find_span.Tie as tie
 
@@ -45,6 +45,6 @@ find-span-spec =
     {- loop-less -}
     (λ c. search span-laws)
     {- loop-again -}
-    (λ c. search span-laws)
+    (λ c. search turn-laws)
     {- returns-2 -}
-    (λ c. search span-laws))
+    (λ c. search turn-laws))

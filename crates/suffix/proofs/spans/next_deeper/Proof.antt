@@ -24,15 +24,7 @@ next-deeper-spec =
     (λ c κs. search seek-laws)
     {- loop-holds -}
     (λ c. search seek-laws)
-    {- content-end-requires -}
-    (λ c κs. search seek-laws)
-    {- sub-line-depth -}
-    (λ c. search seek-laws)
-    {- part-line-depth-start -}
-    (λ c. search seek-laws)
-    {- part-line-depth-end -}
-    (λ c. search seek-laws)
-    {- line-depth-requires -}
+    {- line-is-deeper-requires -}
     (λ c κs. search seek-laws)
     {- returns -}
     (λ c. search seek-laws)
