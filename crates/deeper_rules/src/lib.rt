@@ -97,7 +97,7 @@ fn lines_finding(host: &[u8], s: &[u8]) -> Finding
     let mut most = 0;
     let mut at = 0;
     loop {
-        let to = suffix::content_end(s, at);
+        let to = suffix::skips::blank_at(s, at);
         let line = line_finding(host, &s[at..to]);
         exception = suffix::larger(exception, line.exception);
         most = suffix::larger(most, line.most);

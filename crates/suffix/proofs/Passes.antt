@@ -139,7 +139,7 @@ unfolding content inContent
 content-is l = while-while inLine (λ b. not (isBlank b)) l
 
 -- a scan in two steps
-while-two : (f g : ℕ → Bool) → ((b : ℕ) → f b ≡ true → g b ≡ true) → (l : Bytes)
+pub while-two : (f g : ℕ → Bool) → ((b : ℕ) → f b ≡ true → g b ≡ true) → (l : Bytes)
     → length (takeWhile f l) + length (takeWhile g (dropWhile f l)) ≡ length (takeWhile g l)
 unfolding takeWhile dropWhile
 while-two f g h [] = refl

@@ -1,4 +1,4 @@
--- The ends of lines, comments, and the pass over lines that find nothing. Assumes nothing.
+-- Comments, and the pass over lines that find nothing. Assumes nothing.
 use mathlib.Core.Path.{_≡_, refl, sym, ap, ap₂, _∙_}
 use mathlib.Core.Bool.{Bool, true, false, _&&_, _||_, not, or-true}
 use mathlib.Core.List.{List, [], _∷_}
@@ -20,7 +20,7 @@ use Rattle.suffix.specs.code.Place.{Stands, endsAtLabel}
 use Rattle.suffix.specs.Suffix.{Rule, readLines, readTable, matches}
 use Rattle.suffix.specs.code.Pass.{maxLabels, sizes, bestOf, joinBest, readLine, inLine, inContent}
 use Rattle.suffix.specs.code.Depth.{deepest, lineDepth, depthsOf, deepened}
-use Rattle.suffix.specs.code.Idle.{Idle, Skipped, blockEnd, lfAt, KindsOf, HostLine, Stopped, at-host, at-other, Passes, Shallow}
+use Rattle.suffix.specs.code.Idle.{Idle, Skipped, KindsOf, HostLine, Stopped, at-host, at-other, Passes, Shallow}
 use Rattle.suffix.specs.declared.Best.{Best}
 use Rattle.suffix.specs.declared.Best.the-variants.{Bad, Sizes}
 use Rattle.suffix.specs.declared.Depths.{Depths}
@@ -30,137 +30,6 @@ use Rattle.suffix.specs.declared.skips.Stop.the-variants.{Host, Other}
 use Rattle.suffix.proofs.Passes.{line-lf, line-other, join-join, pass-fits}
 use Rattle.suffix.proofs.Climbs.{Deeps, deeps-starts, deeps-more, deeps-bad, deeps-ends, past-is, wrong-best}
 use Rattle.suffix.proofs.IdleLines.{idle-none, idle-on, idle-empty, idle-comment, tail-more, tail-whole, brings-to, shallow-line, shallow-of, shallow-on}
-
--- ---- the end of a line
-
-pub lf-here : (k b : ℕ) → b ≡ 10 → k ≡ lfAt k b
-unfolding lfAt
-lf-here k b e = rw (eq-eqb b 10 e)
-
-pub lf-none : (k b : ℕ) → (b ≡ 10 → ⊥) → 64 ≡ lfAt k b
-unfolding lfAt
-lf-none k b n = rw (ne-eqb b 10 n)
-
-pub lesser-first : (a b : ℕ) → a < b → a ≡ min a b
-lesser-first a b h = omega arith
-
-pub lesser-second : (a b : ℕ) → b ≤ a → b ≡ min a b
-lesser-second a b h = omega arith
-
--- the end is found before k, or the bytes before k go on
-pub data Seen (w : ℕ) (l : Bytes) (k : ℕ) : ℕ → Type 0 where
-  seen : {r : ℕ} → r < k → r ≡ w → Seen w l k r
-  unseen : k + length (takeWhile inLine (take (64 - k) l)) ≡ w → Seen w l k 64
-
-pub record Block (s : Bytes) (from r k : ℕ) : Type 0 where
-  pub most : k ≤ 64
-  pub is : Seen (blockEnd s from) (drop (from + k) s) k r
-
-pub block-starts : (s : Bytes) (from : ℕ) → Block s from 64 0
-unfolding blockEnd
-block-starts s from = record { most = omega arith; is = unseen (let z : from + 0 ≡ from = omega arith in rw z (omega arith)) }
-
-seen-ends : {w k r : ℕ} {l : Bytes} → Seen w l k r → k ≡ 64 → r ≡ w
-unfolding takeWhile
-seen-ends (seen h e) f = e
-seen-ends {k = k} (unseen e) f = let z : 64 - k ≡ 0 = omega arith in omega (arith, f, rw z at e)
-
-seen-more : {w k r v x : ℕ} (b : ℕ) (l m : Bytes) → Seen w l k r → k < 64 → l ≡ b ∷ m → v ≡ lfAt k b → x ≡ min v r → Seen w m (k + 1) x
-unfolding lfAt
-seen-more {w} {k} {r} {v} {x} b l m (seen h e) g f i j = rw kept (seen {r = r} (omega arith) e)
-  where
-    above : k ≤ v
-    above = rw i (go (eqb b 10))
-      where
-        go : (u : Bool) → k ≤ (if u then k else 64)
-        go true = omega arith
-        go false = omega arith
-
-    kept : x ≡ r
-    kept = omega (arith, above, j)
-seen-more {w} {k} {r} {v} {x} b l m (unseen e) g f i j = go (eqb b 10) refl
-  where
-    n : 64 - k ≡ suc (64 - (k + 1))
-    n = omega arith
-
-    go : (u : Bool) → eqb b 10 ≡ u → Seen w m (k + 1) x
-    go true u =
-        let y : v ≡ k = i ∙ rw u in
-        let z : x ≡ k = omega (arith, y, j) in
-        rw z (seen {r = k} (omega arith) (stops (eqb-true b 10 u)))
-      where
-        stops : b ≡ 10 → k ≡ w
-        stops c = unfold takeWhile in (omega (arith, rw (f, n, ← line-lf b c) at e))
-    go false u =
-        let y : v ≡ 64 = i ∙ rw u in
-        let z : x ≡ 64 = omega (arith, y, j) in
-        rw z (unseen (goes (eqb-false b 10 u)))
-      where
-        goes : (b ≡ 10 → ⊥) → k + 1 + length (takeWhile inLine (take (64 - (k + 1)) m)) ≡ w
-        goes c = unfold takeWhile in (omega (arith, rw (f, n, ← line-other b c) at e))
-
-module _ {s : Bytes} {from r k : ℕ} (B : Block s from r k) where
-  pub block-ends : 64 ≤ k → r ≡ blockEnd s from
-  block-ends h = seen-ends (B .is) (omega (arith, B .most))
-
-  pub block-more : {x v : ℕ} → x ≡ min v r → v ≡ lfAt k (getD s (from + k) 0) → k < 64 → from + 64 ≤ length s → Block s from x (k + 1)
-  block-more e f h l =
-      let o : from + (k + 1) ≡ suc (from + k) = omega arith in
-      record { most = omega arith; is = rw o (seen-more (getD s (from + k) 0) (drop (from + k) s) (drop (suc (from + k)) s) (B .is) h (drop-cons s (from + k) 0 (omega arith)) f e) }
-
--- a scan of the first n bytes, and of all
-while-short : (n : ℕ) (l : Bytes) → length (takeWhile inLine (take n l)) < n → n ≤ length l → length (takeWhile inLine l) ≡ length (takeWhile inLine (take n l))
-unfolding takeWhile
-while-short zero l h k = absurd (omega arith)
-while-short (suc n) [] h k = absurd (omega arith)
-while-short (suc n) (b ∷ l) h k = go (inLine b) h (while-short n l)
-  where
-    go : (u : Bool) → length (if u then b ∷ takeWhile inLine (take n l) else []) < suc n → (length (takeWhile inLine (take n l)) < n → n ≤ length l → length (takeWhile inLine l) ≡ length (takeWhile inLine (take n l)))
-        → length (if u then b ∷ takeWhile inLine l else []) ≡ length (if u then b ∷ takeWhile inLine (take n l) else [])
-    go true h ih = let i = ih (omega arith) (omega arith) in omega (arith, i)
-    go false h ih = refl
-
-while-long : (n : ℕ) (l : Bytes) → n ≤ length (takeWhile inLine (take n l)) → n ≤ length l → length (takeWhile inLine l) ≡ n + length (takeWhile inLine (drop n l))
-unfolding takeWhile
-while-long zero l h k = omega arith
-while-long (suc n) [] h k = absurd (omega arith)
-while-long (suc n) (b ∷ l) h k = go (inLine b) h (while-long n l)
-  where
-    go : (u : Bool) → suc n ≤ length (if u then b ∷ takeWhile inLine (take n l) else []) → (n ≤ length (takeWhile inLine (take n l)) → n ≤ length l → length (takeWhile inLine l) ≡ n + length (takeWhile inLine (drop n l)))
-        → length (if u then b ∷ takeWhile inLine l else []) ≡ suc n + length (takeWhile inLine (drop n l))
-    go true h ih = let i = ih (omega arith) (omega arith) in omega (arith, i)
-    go false h ih = absurd (omega arith)
-
--- the line at from ends where the line at i ends
-pub record SameEnd (s : Bytes) (from i : ℕ) : Type 0 where
-  pub is : i + length (takeWhile inLine (drop i s)) ≡ from + length (takeWhile inLine (drop from s))
-
-pub end-starts : (s : Bytes) (from : ℕ) → SameEnd s from from
-end-starts s from = record { is = refl }
-
-module _ {s : Bytes} {from i : ℕ} (E : SameEnd s from i) where
-  pub end-out : length s ≤ i → i ≡ from + length (takeWhile inLine (drop from s))
-  end-out h = scan-end inLine s i h (E .is)
-
-  pub end-lf : i < length s → getD s i 0 ≡ 10 → i ≡ from + length (takeWhile inLine (drop from s))
-  end-lf h e = scan-stop inLine s i h (line-lf (getD s i 0) e) refl (E .is)
-
-  pub end-short : {r : ℕ} → r ≡ i + length (takeWhile inLine (drop i s)) → r ≡ from + length (takeWhile inLine (drop from s))
-  end-short e = e ∙ E .is
-
-  module _ {r m : ℕ} (e : r ≡ blockEnd s i) (f : m ≡ r) (h : 64 ≤ length s - i) where
-    inside : 64 ≤ length (drop i s)
-    inside = omega (arith, length-drop i s)
-
-    pub end-here : m < 64 → i + m ≡ from + length (takeWhile inLine (drop from s))
-    unfolding blockEnd
-    end-here k = omega (arith, e, f, E .is, while-short 64 (drop i s) (omega (arith, e, f)) inside)
-
-    pub end-more : 64 ≤ m → SameEnd s from (i + 64)
-    unfolding blockEnd
-    end-more k =
-        let w = while-long 64 (drop i s) (omega (arith, e, f)) inside in
-        record { is = omega (arith, E .is, rw (drop-drop 64 i s) at w) }
 
 -- ---- comments and empty lines
 
@@ -420,20 +289,7 @@ module _ {classes kinds host table : Bytes} {a b c start at : ℕ} (R : Round cl
           let D = deeps-more (R .deeps) g {q = bestOf (labels host) o} refl (found-best (labels host) o c e m d (sym f ∙ t)) i u v (twice c d (lineDepth (labels host) o) w p) refl in
           record { short = R .short; classes-are = R .classes-are; lent = R .lent; stands = rw w S; deeps = shallow-deeps D I }
 
-pub ruleset block-laws = (block-starts, block-ends, block-more, needs)
-
-pub ruleset end-laws = (end-starts, end-out, end-lf, end-short, end-here, end-more, needs)
-
 pub ruleset skip-laws = (
-  scan-end,
-  scan-stop,
-  scan-more,
-  line-lf,
-  line-other,
-  lf-here,
-  lf-none,
-  lesser-first,
-  lesser-second,
   skipped-none,
   skipped-here,
   skipped-on,

@@ -1,5 +1,6 @@
 // Lines of the table that find nothing for a host, passed over byte after byte.
 use crate::hosts;
+use crate::in_content;
 ghost use mathlib.Core.Path.{_≡_};
 ghost use mathlib.Core.Bool.{_&&_, _||_, not};
 ghost use Prim.Native.Nat.{suc, _+_, _≤_, _<_, max, min};
@@ -9,8 +10,8 @@ ghost use Rattle.ascii.specs.Ascii.{if_then_else_, takeWhile, lastOf};
 ghost use Rattle.ascii.specs.Class.{Classifies};
 ghost use Rattle.suffix.specs.Host.{labels};
 ghost use Rattle.suffix.specs.code.Place.{Stands, endsAtLabel};
-ghost use Rattle.suffix.specs.code.Pass.{inLine};
-ghost use Rattle.suffix.specs.code.Idle.{Skipped, blockEnd, lfAt, lastByte, kindOf, KindsOf, stepOf, stopOf, Stopped, Passes, Shallow};
+ghost use Rattle.suffix.specs.code.Pass.{inLine, inContent};
+ghost use Rattle.suffix.specs.code.Idle.{Skipped, outside, blockEnd, placeIn, lastByte, kindOf, KindsOf, stepOf, stopOf, Stopped, Passes, Shallow};
 
 // One byte on: where its line begins, and the byte's kind.
 pub enum Step {
@@ -163,20 +164,21 @@ fn plain_lines(kinds: &[u8; 256], host: &[u8], s: &[u8], from: usize) -> Stop
     Stop::Other(start)
 }
 
-fn in_line(b: u8) -> bool
-    ensures { λ r. ⌜ r ≡ inLine b ⌝ }
+// A byte that is not one from lo to hi.
+fn is_outside(lo: u8, hi: u8, b: u8) -> bool
+    ensures { λ r. ⌜ r ≡ outside lo hi b ⌝ }
 {
-    if b == b'\n' {
-        return false;
+    if b < lo {
+        return true;
     }
-    true
+    hi < b
 }
 
-// The place k of an LF, 64 of another byte.
-fn lf_at(k: u8, b: u8) -> u8
-    ensures { λ r. ⌜ r ≡ lfAt k b ⌝ }
+// The place k of a byte from lo to hi, 64 of another one.
+fn place_in(lo: u8, hi: u8, k: u8, b: u8) -> u8
+    ensures { λ r. ⌜ r ≡ placeIn lo hi k b ⌝ }
 {
-    if b == b'\n' { k } else { 64 }
+    if is_outside(lo, hi, b) { 64 } else { k }
 }
 
 fn lesser_of(a: u8, b: u8) -> u8
@@ -185,28 +187,28 @@ fn lesser_of(a: u8, b: u8) -> u8
     if a < b { a } else { b }
 }
 
-// Where the line ends in the 64 bytes at a place, 64 where it goes on. Each turn does the same and their number is fixed, so that
-// the compiler does many at once.
-fn end_in_block(s: &[u8], from: usize) -> u8
+// Which of the 64 bytes at a place is the first one from lo to hi, 64 where none is. Each turn does the same and their number is
+// fixed, so that the compiler does many at once.
+fn first_in_block(s: &[u8], from: usize, lo: u8, hi: u8) -> u8
     requires { ⌜ from + 64 ≤ length (now s) ⌝ }
-    ensures { λ r. ⌜ r ≡ blockEnd (now (s .entry)) from ⌝ }
+    ensures { λ r. ⌜ r ≡ blockEnd lo hi (now (s .entry)) from ⌝ }
 {
     let mut r = 64;
     let mut k = 0;
     while k < 64 {
-        r = lesser_of(lf_at(k as u8, s[from + k]), r);
+        r = lesser_of(place_in(lo, hi, k as u8, s[from + k]), r);
         k += 1;
     }
     r
 }
 
-// The same byte after byte, for a line that ends soon.
-pub(crate) fn short_end(s: &[u8], from: usize) -> usize
-    ensures { λ r. ⌜ r ≡ from + length (takeWhile inLine (drop from (now (s .entry)))) ⌝ }
+// The first byte from lo to hi, or the end, byte after byte: for one that comes soon.
+fn soon_in(s: &[u8], from: usize, lo: u8, hi: u8) -> usize
+    ensures { λ r. ⌜ r ≡ from + length (takeWhile (outside lo hi) (drop from (now (s .entry)))) ⌝ }
 {
     let mut i = from;
     while i < s.len() {
-        if in_line(s[i]) {
+        if is_outside(lo, hi, s[i]) {
             i += 1;
         } else {
             return i;
@@ -215,24 +217,53 @@ pub(crate) fn short_end(s: &[u8], from: usize) -> usize
     i
 }
 
-// Where a line ends: its LF, or the end; in blocks of 64 bytes while there are so many. The first byte alone before a block: many
-// comments are empty.
-pub fn line_end(s: &[u8], from: usize) -> usize
-    ensures { λ r. ⌜ r ≡ from + length (takeWhile inLine (drop from (now (s .entry)))) ⌝ }
+// The same in blocks of 64 bytes while there are so many. The first byte alone before a block: many comments are empty.
+fn first_in(s: &[u8], from: usize, lo: u8, hi: u8) -> usize
+    ensures { λ r. ⌜ r ≡ from + length (takeWhile (outside lo hi) (drop from (now (s .entry)))) ⌝ }
 {
     let mut i = from;
     while i < s.len() {
         if s.len() - i < 64 {
-            return short_end(s, i);
+            return soon_in(s, i, lo, hi);
         }
-        if s[i] == b'\n' {
+        if is_outside(lo, hi, s[i]) {
+            let n = wide(first_in_block(s, i, lo, hi));
+            if n < 64 {
+                return i + n;
+            }
+            i += 64;
+        } else {
             return i;
         }
-        let n = wide(end_in_block(s, i));
-        if n < 64 {
-            return i + n;
+    }
+    i
+}
+
+// Where a line ends, its LF or the end; one that ends soon.
+pub(crate) fn short_end(s: &[u8], from: usize) -> usize
+    ensures { λ r. ⌜ r ≡ from + length (takeWhile inLine (drop from (now (s .entry)))) ⌝ }
+{
+    soon_in(s, from, b'\n', b'\n')
+}
+
+// The same for any line.
+pub fn line_end(s: &[u8], from: usize) -> usize
+    ensures { λ r. ⌜ r ≡ from + length (takeWhile inLine (drop from (now (s .entry)))) ⌝ }
+{
+    first_in(s, from, b'\n', b'\n')
+}
+
+// Where what is read of a line ends: its first blank or LF, which are all from the tab to the space.
+pub fn blank_at(s: &[u8], from: usize) -> usize
+    ensures { λ r. ⌜ r ≡ from + length (takeWhile inContent (drop from (now (s .entry)))) ⌝ }
+{
+    let mut i = first_in(s, from, b'\t', b' ');
+    while i < s.len() {
+        if in_content(s[i]) {
+            i = first_in(s, i + 1, b'\t', b' ');
+        } else {
+            return i;
         }
-        i += 64;
     }
     i
 }

@@ -20,7 +20,7 @@ lines-finding-spec =
     μ-loop
     {- loop-holds -}
     (λ c. search finding-laws)
-    {- content-end-requires -}
+    {- blank-at-requires -}
     (λ c κs. search finding-laws)
     {- sub-line-finding -}
     (λ c. search finding-laws)

@@ -4,7 +4,7 @@ use mathlib.Core.Bool.{Bool, true, _&&_, _||_}
 use Prim.Native.Nat.{ℕ, suc, _+_, _-_, _*_, _≤_, _<_, max}
 use Prim.Native.Char.{code}
 use lib.ListN.{length, take, drop, getD}
-use lib.Dec.{eqb, leb}
+use lib.Dec.{eqb, leb, ltb}
 use Rattle.ascii.specs.Ascii.{Bytes, if_then_else_, takeWhile, lastOf, splitAt, isDigit, isLetter, lowerByte}
 use Rattle.suffix.specs.Host.{labels, isHost}
 use Rattle.suffix.specs.code.Place.{Stands}
@@ -33,13 +33,17 @@ pub record Skipped (table : Bytes) (from to : ℕ) : Type 0 where
   pub inside : to ≤ length table + 1
   pub is : (host : Bytes) → Idle host table from to
 
--- how many of the 64 bytes at a place are before the line's end
-unfoldable pub blockEnd : Bytes → ℕ → ℕ
-blockEnd s from = length (takeWhile inLine (take 64 (drop from s)))
+-- a byte that is not one from lo to hi
+unfoldable pub outside : ℕ → ℕ → ℕ → Bool
+outside lo hi b = ltb b lo || ltb hi b
 
--- the place k of an LF, 64 of another byte
-unfoldable pub lfAt : ℕ → ℕ → ℕ
-lfAt k b = if eqb b (code "\n") then k else 64
+-- how many of the 64 bytes at a place are before the first one from lo to hi
+unfoldable pub blockEnd : ℕ → ℕ → Bytes → ℕ → ℕ
+blockEnd lo hi s from = length (takeWhile (outside lo hi) (take 64 (drop from s)))
+
+-- the place k of a byte from lo to hi, 64 of another one
+unfoldable pub placeIn : ℕ → ℕ → ℕ → ℕ → ℕ
+placeIn lo hi k b = if outside lo hi b then 64 else k
 
 unfoldable pub lastByte : Bytes → ℕ
 lastByte s = getD s (length s - 1) 0
