@@ -1,5 +1,5 @@
 -- Rules, lines and the lines of a span: what they find for a host. Assumes nothing.
-use mathlib.Core.Path.{_≡_, refl, sym, ap, _∙_}
+use mathlib.Core.Path.{_≡_, refl, sym, _∙_}
 use mathlib.Core.Bool.{Bool, true, false}
 use mathlib.Core.List.{List, [], _∷_}
 use mathlib.Core.Option.{Option, none, some}
@@ -16,7 +16,7 @@ use Rattle.suffix.specs.Suffix.{Rule, readRule, readLines}
 use Rattle.suffix.specs.code.Place.{endsAtLabel}
 use Rattle.suffix.specs.code.Pass.{sizes, bestOf, oneRule, readLine, inLine, inContent}
 use Rattle.suffix.specs.code.Depth.{Good}
-use Rattle.suffix.specs.declared.Best.the-variants.{Bad, Sizes}
+use Rattle.suffix.specs.declared.Best.the-variants.{Bad}
 use Rattle.suffix.proofs.Lines.{wild-in, exception-in, wild-fits, host-yes, host-no, wild-no, wild-yes, wild-less, exception-yes, exception-no, rule-is-star, rule-is-wild, rule-is-exception, rule-wild-long, rule-exception-one, begins-is, rest-whole, line-empty, line-comment, line-rule}
 use Rattle.suffix.proofs.Passes.{join-zero, Pass, pass-ends, pass-bad, pass-more}
 use Rattle.suffix.proofs.Climbs.{told-none, wild-reads, exception-reads, rule-good, depth-host-host}
@@ -146,29 +146,15 @@ module _ {host s : Bytes} {e m at to : ℕ} (L : Looking host s e m at) (g : to 
     pub looking-ends : {r : Finding} → length s ≤ k → r ≡ found x y → FindsLines host s r
     looking-ends l j = record { is = λ a. rw j (pass-ends (next a) (omega arith)) }
 
-pub ruleset finding-laws = (
-  host-found,
-  host-none,
-  wild-too-long,
-  wild-found,
-  wild-whole,
-  wild-none,
-  exception-found,
-  exception-none,
-  empty-line,
-  comment-line,
-  star-line,
-  wild-line,
-  exception-line,
-  host-line,
-  unmarked-line,
-  looking-starts,
-  line-from,
-  line-to,
-  looking-more,
-  looking-ends,
-  wild-in,
-  exception-in,
-  wild-fits,
-  needs,
-)
+-- a set for each function: a search that fails then tries every way
+pub ruleset host-laws = (host-found, host-none, needs)
+
+pub ruleset wild-laws = (wild-too-long, wild-found, wild-whole, wild-none, wild-fits, needs)
+
+pub ruleset exception-laws = (exception-found, exception-none, needs)
+
+pub ruleset any-laws = (empty-line, comment-line, star-line, wild-line, exception-line, host-line, wild-in, exception-in, needs)
+
+pub ruleset line-laws = (unmarked-line, needs)
+
+pub ruleset lines-laws = (looking-starts, line-from, line-to, looking-more, looking-ends, needs)

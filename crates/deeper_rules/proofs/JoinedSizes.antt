@@ -1,6 +1,6 @@
 -- A host that ends in the private label of another: what the table found for that one, joined with what the span of the deeper
 -- rules finds for this one, gives the size of its public suffix. Assumes nothing.
-use mathlib.Core.Path.{_≡_, refl, sym, ap, ap₂, _∙_}
+use mathlib.Core.Path.{_≡_, refl, sym, ap, _∙_}
 use mathlib.Core.Bool.{Bool, true, false}
 use mathlib.Core.List.{List, [], _∷_, _++_}
 use mathlib.Core.Option.{Option, none, some}
@@ -10,12 +10,12 @@ use lib.ListN.{length, take, drop}
 use lib.Dec.{eqb, leb, ltb}
 use borrow.Author.Needs.{needs}
 use borrow.Author.Tests.{eqb-true, le-ltb, ltb-true, ltb-false}
-use Rattle.ascii.specs.Ascii.{Bytes, if_then_else_, isNone, any, filterBy, lastOf, splitAt}
-use Rattle.suffix.specs.Host.{labels, isHost}
-use Rattle.suffix.specs.Suffix.{Rule, matches, readLines, readTable, privateLabel, allMatch}
+use Rattle.ascii.specs.Ascii.{Bytes, if_then_else_, isNone, filterBy, lastOf, splitAt}
+use Rattle.suffix.specs.Host.{labels}
+use Rattle.suffix.specs.Suffix.{Rule, matches, readLines, readTable}
 use Rattle.suffix.specs.code.Place.{endsAtLabel}
 use Rattle.suffix.specs.code.Pass.{maxLabels, sizes, bestOf, joinBest, sizeOf}
-use Rattle.suffix.specs.code.Deeper.{goesDeeper, deeperIn, isTheLabel}
+use Rattle.suffix.specs.code.Deeper.{goesDeeper, deeperIn}
 use Rattle.suffix.specs.code.Span.{Spans, Held}
 use Rattle.suffix.specs.declared.Best.{Best}
 use Rattle.suffix.specs.declared.Best.the-variants.{Bad, Sizes}
@@ -26,7 +26,7 @@ use Rattle.suffix.proofs.Passes.{join-bad}
 use Rattle.suffix.proofs.Cuts.{best-both}
 use Rattle.suffix.proofs.Speed.{rule-same, rules-same, Within, within, home, label-size, by-size}
 use Rattle.suffix.proofs.Owned.{has-no-end}
-use Rattle.deeper_rules.specs.code.Findings.{best, FindsLines, Tells}
+use Rattle.deeper_rules.specs.code.Findings.{FindsLines, Tells}
 use Rattle.deeper_rules.specs.declared.Finding.{Finding}
 
 -- ---- numbers
@@ -64,9 +64,6 @@ module _ (ea eg ec eh ma mg mc mh e m : ℕ) (x : e ≡ max ea (max eg ec)) (y :
       go false h = by-most (ltb-false 0 e h)
 
 -- ---- rules
-
-max-more : (n k : ℕ) {a b : ℕ} → n ≤ k → a ≤ b → max n a ≤ max k b
-max-more n k h l = omega arith
 
 filter-swap : (p q : Rule → Bool) (rs : List Rule) → filterBy p (filterBy q rs) ≡ filterBy q (filterBy p rs)
 unfolding filterBy

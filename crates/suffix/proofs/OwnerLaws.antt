@@ -1,5 +1,5 @@
 -- The owner: its label, and what is held where rules go deeper. Assumes nothing.
-use mathlib.Core.Path.{_≡_, refl, sym, ap, _∙_}
+use mathlib.Core.Path.{_≡_, sym, ap, _∙_}
 use mathlib.Core.Bool.{Bool, true, false}
 use mathlib.Core.Option.{Option, none, some}
 use Prim.Native.Nat.{ℕ, _-_, _≤_}
@@ -8,7 +8,7 @@ use borrow.Author.Needs.{needs}
 use Rattle.ascii.specs.Ascii.{Bytes, isNone}
 use Rattle.suffix.specs.Suffix.{readTable, privateLabel, orEmpty}
 use Rattle.suffix.specs.code.Depth.{deeperThan, LookupIs, unread, looked-up}
-use Rattle.suffix.specs.code.Span.{Spans, Held, OwnerIs, bad-table, owner-is}
+use Rattle.suffix.specs.code.Span.{Spans, OwnerIs, bad-table, owner-is}
 use Rattle.suffix.specs.declared.Lookup.{Lookup}
 use Rattle.suffix.specs.declared.Lookup.the-variants.{Unread, Found as At}
 use Rattle.suffix.specs.declared.Owner.the-variants.{BadTable, Label}

@@ -1,20 +1,19 @@
 -- Comments, and the pass over lines that find nothing. Assumes nothing.
 use mathlib.Core.Path.{_≡_, refl, sym, ap, ap₂, _∙_}
 use mathlib.Core.Bool.{Bool, true, false, _&&_, _||_, not, or-true}
-use mathlib.Core.List.{List, [], _∷_}
+use mathlib.Core.List.{List, []}
 use mathlib.Core.Option.{Option, none, some}
-use Prim.Native.Nat.{ℕ, zero, suc, _+_, _-_, _≤_, _<_, max, min}
+use Prim.Native.Nat.{ℕ, suc, _+_, _-_, _≤_, _<_, max}
 use native.Mathlib.Omega.{arith}
 use mir.Val.{Fits}
 use mir.Syntax.{w64}
-use lib.ListN.{length, getD, take, drop, length-drop}
-use lib.Seq.{drop-cons, drop-drop}
-use lib.Dec.{eqb, ltb}
+use lib.ListN.{length, getD, take, drop}
+use lib.Dec.{ltb}
 use borrow.Author.Needs.{needs}
-use borrow.Author.Tests.{eq-eqb, ne-eqb, eqb-true, eqb-false, lt-ltb, le-ltb}
-use Rattle.ascii.specs.Ascii.{Bytes, if_then_else_, filterBy, takeWhile, lastOf, splitAt}
+use borrow.Author.Tests.{lt-ltb, le-ltb}
+use Rattle.ascii.specs.Ascii.{Bytes, filterBy, takeWhile, lastOf, splitAt}
 use Rattle.ascii.specs.Class.{Classifies}
-use Rattle.ascii.proofs.Scan.{scan-end, scan-stop, scan-more, scan-from, scan-to}
+use Rattle.ascii.proofs.Scan.{scan-from, scan-to}
 use Rattle.suffix.specs.Host.{labels}
 use Rattle.suffix.specs.code.Place.{Stands, endsAtLabel}
 use Rattle.suffix.specs.Suffix.{Rule, readLines, readTable, matches}
@@ -27,7 +26,7 @@ use Rattle.suffix.specs.declared.Depths.{Depths}
 use Rattle.suffix.specs.declared.Depths.the-variants.{Wrong, Found}
 use Rattle.suffix.specs.declared.skips.Stop.{Stop}
 use Rattle.suffix.specs.declared.skips.Stop.the-variants.{Host, Other}
-use Rattle.suffix.proofs.Passes.{line-lf, line-other, join-join, pass-fits}
+use Rattle.suffix.proofs.Passes.{join-join, pass-fits}
 use Rattle.suffix.proofs.Climbs.{Deeps, deeps-starts, deeps-more, deeps-bad, deeps-ends, past-is, wrong-best}
 use Rattle.suffix.proofs.IdleLines.{idle-none, idle-on, idle-empty, idle-comment, tail-more, tail-whole, brings-to, shallow-line, shallow-of, shallow-on}
 

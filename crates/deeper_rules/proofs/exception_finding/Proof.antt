@@ -1,5 +1,5 @@
 -- `deeper_rules::exception_finding` meets its contract.
-use Rattle.deeper_rules.proofs.FindingLaws.{finding-laws}
+use Rattle.deeper_rules.proofs.FindingLaws.{exception-laws}
 use Rattle.deeper_rules.proofs.exception_finding.Statement.{statement}
 use Rattle.deeper_rules.proofs.exception_finding.Tie as tie
 
@@ -8,14 +8,14 @@ exception-finding-spec =
     tie.close
     (tie.spec
     {- ends-at-label-requires -}
-    (λ c κs. search finding-laws)
+    (λ c κs. search exception-laws)
     {- label-count-requires -}
-    (λ c κs. search finding-laws)
+    (λ c κs. search exception-laws)
     {- sizes-requires -}
-    (λ c κs. search finding-laws)
+    (λ c κs. search exception-laws)
     {- returns -}
-    (λ c. search finding-laws)
+    (λ c. search exception-laws)
     {- sizes-requires-2 -}
-    (λ c κs. search finding-laws)
+    (λ c κs. search exception-laws)
     {- returns-2 -}
-    (λ c. search finding-laws))
+    (λ c. search exception-laws))

@@ -1,5 +1,5 @@
 -- `deeper_rules::host_finding` meets its contract.
-use Rattle.deeper_rules.proofs.FindingLaws.{finding-laws}
+use Rattle.deeper_rules.proofs.FindingLaws.{host-laws}
 use Rattle.deeper_rules.proofs.host_finding.Statement.{statement}
 use Rattle.deeper_rules.proofs.host_finding.Tie as tie
 
@@ -8,14 +8,14 @@ host-finding-spec =
     tie.close
     (tie.spec
     {- ends-at-label-requires -}
-    (λ c κs. search finding-laws)
+    (λ c κs. search host-laws)
     {- label-count-requires -}
-    (λ c κs. search finding-laws)
+    (λ c κs. search host-laws)
     {- sizes-requires -}
-    (λ c κs. search finding-laws)
+    (λ c κs. search host-laws)
     {- returns -}
-    (λ c. search finding-laws)
+    (λ c. search host-laws)
     {- sizes-requires-2 -}
-    (λ c κs. search finding-laws)
+    (λ c κs. search host-laws)
     {- returns-2 -}
-    (λ c. search finding-laws))
+    (λ c. search host-laws))

@@ -2,7 +2,7 @@
 use Rattle.deeper_rules.proofs.FindingLaws.{Looking}
 use Prim.Native.Nat.{_-_}
 use lib.ListN.{length}
-use Rattle.deeper_rules.proofs.FindingLaws.{finding-laws}
+use Rattle.deeper_rules.proofs.FindingLaws.{lines-laws}
 use Rattle.deeper_rules.proofs.lines_finding.Statement.{statement}
 use Rattle.deeper_rules.proofs.lines_finding.Tie as tie
 
@@ -19,30 +19,30 @@ lines-finding-spec =
     Inv-loop
     μ-loop
     {- loop-holds -}
-    (λ c. search finding-laws)
+    (λ c. search lines-laws)
     {- blank-at-requires -}
-    (λ c κs. search finding-laws)
+    (λ c κs. search lines-laws)
     {- sub-line-finding -}
-    (λ c. search finding-laws)
+    (λ c. search lines-laws)
     {- part-line-finding-start -}
-    (λ c. search finding-laws)
+    (λ c. search lines-laws)
     {- part-line-finding-end -}
-    (λ c. search finding-laws)
+    (λ c. search lines-laws)
     {- line-finding-requires -}
-    (λ c κs. search finding-laws)
+    (λ c κs. search lines-laws)
     {- larger-requires -}
-    (λ c κs. search finding-laws)
+    (λ c κs. search lines-laws)
     {- larger-requires-2 -}
-    (λ c κs. search finding-laws)
+    (λ c κs. search lines-laws)
     {- line-end-requires -}
-    (λ c κs. search finding-laws)
+    (λ c κs. search lines-laws)
     {- sizes-requires -}
-    (λ c κs. search finding-laws)
+    (λ c κs. search lines-laws)
     {- returns -}
-    (λ c. search finding-laws)
+    (λ c. search lines-laws)
     {- add-at -}
-    (λ c. search finding-laws)
+    (λ c. search lines-laws)
     {- loop-less -}
-    (λ c. search finding-laws)
+    (λ c. search lines-laws)
     {- loop-again -}
-    (λ c. search finding-laws))
+    (λ c. search lines-laws))

@@ -1,5 +1,5 @@
 -- `deeper_rules::wild_finding` meets its contract.
-use Rattle.deeper_rules.proofs.FindingLaws.{finding-laws}
+use Rattle.deeper_rules.proofs.FindingLaws.{wild-laws}
 use Rattle.deeper_rules.proofs.wild_finding.Statement.{statement}
 use Rattle.deeper_rules.proofs.wild_finding.Tie as tie
 
@@ -8,24 +8,24 @@ wild-finding-spec =
     tie.close
     (tie.spec
     {- sizes-requires -}
-    (λ c κs. search finding-laws)
+    (λ c κs. search wild-laws)
     {- returns -}
-    (λ c. search finding-laws)
+    (λ c. search wild-laws)
     {- ends-at-label-requires -}
-    (λ c κs. search finding-laws)
+    (λ c κs. search wild-laws)
     {- label-count-requires -}
-    (λ c κs. search finding-laws)
+    (λ c κs. search wild-laws)
     {- add-sizes -}
-    (λ c. search finding-laws)
+    (λ c. search wild-laws)
     {- sizes-requires-2 -}
-    (λ c κs. search finding-laws)
+    (λ c κs. search wild-laws)
     {- returns-2 -}
-    (λ c. search finding-laws)
+    (λ c. search wild-laws)
     {- sizes-requires-3 -}
-    (λ c κs. search finding-laws)
+    (λ c κs. search wild-laws)
     {- returns-3 -}
-    (λ c. search finding-laws)
+    (λ c. search wild-laws)
     {- sizes-requires-4 -}
-    (λ c κs. search finding-laws)
+    (λ c κs. search wild-laws)
     {- returns-4 -}
-    (λ c. search finding-laws))
+    (λ c. search wild-laws))
