@@ -9,18 +9,21 @@ use lib.ListN.{length, getD, take, drop}
 use lib.Dec.{leb}
 use borrow.Author.Needs.{needs}
 use borrow.Author.Tests.{ne-eqb, leb-true, leb-false}
-use Rattle.ascii.specs.Ascii.{Bytes, isNone, takeWhile, splitAt, same, beginsWith}
+use Rattle.ascii.specs.Ascii.{Bytes, isNone, takeWhile, same, beginsWith}
 use Rattle.ascii.proofs.Scan.{scan-to}
 use Rattle.suffix.specs.Host.{labels}
-use Rattle.suffix.specs.Suffix.{Rule, readRule, readLines}
+use Rattle.suffix.specs.Suffix.{Rule, readRule, readTable}
 use Rattle.suffix.specs.code.Place.{endsAtLabel}
 use Rattle.suffix.specs.code.Pass.{sizes, bestOf, oneRule, readLine, inLine, inContent}
-use Rattle.suffix.specs.code.Depth.{Good}
+use Rattle.suffix.specs.code.Depth.{depthsOf, Good}
 use Rattle.suffix.specs.declared.Best.the-variants.{Bad}
+use Rattle.suffix.specs.declared.Depths.{Depths}
+use Rattle.suffix.specs.declared.Depths.the-variants.{Wrong, Found}
+use Rattle.suffix.proofs.Ends.{true-false}
 use Rattle.suffix.proofs.Lines.{wild-in, exception-in, wild-fits, host-yes, host-no, wild-no, wild-yes, wild-less, exception-yes, exception-no, rule-is-star, rule-is-wild, rule-is-exception, rule-wild-long, rule-exception-one, begins-is, rest-whole, line-empty, line-comment, line-rule}
-use Rattle.suffix.proofs.Passes.{join-zero, Pass, pass-ends, pass-bad, pass-more}
-use Rattle.suffix.proofs.Climbs.{told-none, wild-reads, exception-reads, rule-good, depth-host-host}
-use Rattle.deeper_rules.specs.code.Findings.{found, best, FindsHost, FindsRule, FindsLine, FindsLines}
+use Rattle.suffix.proofs.Passes.{Pass, pass-starts, pass-ends, pass-bad, pass-more}
+use Rattle.suffix.proofs.Climbs.{table-short, to-best, told-none, wild-reads, exception-reads, rule-good, depth-host-host}
+use Rattle.deeper_rules.specs.code.Findings.{found, best, FindsHost, FindsRule, FindsLine, FindsTable}
 use Rattle.deeper_rules.specs.declared.Finding.{Finding}
 
 -- ---- rules
@@ -109,14 +112,14 @@ unmarked-line h (b ∷ w) l m F =
 
 pub record Looking (host s : Bytes) (e m at : ℕ) : Type 0 where
   pub inside : at ≤ length s
-  pub is : isNone (readLines (splitAt 10 s)) ≡ false → Pass host s (bestOf (labels host) (readLines (splitAt 10 s))) e m at
+  pub is : isNone (readTable s) ≡ false → Pass host s (bestOf (labels host) (readTable s)) e m at
 
 pub looking-starts : (host s : Bytes) → Looking host s 0 0 0
-looking-starts host s = record { inside = omega arith; is = λ g. record { is = join-zero (bestOf (labels host) (readLines (splitAt 10 s))) } }
+looking-starts host s = record { inside = omega arith; is = λ g. pass-starts host s (table-short s g) }
 
 not-bad : {A : Type 0} (hl : List Bytes) (o : Option (List Rule)) → isNone o ≡ false → Bad ≡ bestOf hl o → A
 unfolding bestOf sizes
-not-bad hl none g e = let z : _≡_ {A = ℕ} 0 1 = cc in absurd (omega arith)
+not-bad hl none g e = true-false g
 not-bad hl (some rs) g e = let z : _≡_ {A = ℕ} 0 1 = cc in absurd (omega arith)
 
 module _ {host s : Bytes} {e m at to : ℕ} (L : Looking host s e m at) (g : to ≡ at + length (takeWhile inContent (drop at s))) where
@@ -126,25 +129,38 @@ module _ {host s : Bytes} {e m at to : ℕ} (L : Looking host s e m at) (g : to 
   pub line-to : to ≤ length s
   line-to = scan-to inContent s at to g (L .inside)
 
-  good-line : isNone (readLines (splitAt 10 s)) ≡ false → Good (take (to - at) (drop at s))
+  good-line : isNone (readTable s) ≡ false → Good (take (to - at) (drop at s))
   good-line a = record { is = go (readLine (take (to - at) (drop at s))) refl }
     where
       go : (o : Option (List Rule)) → readLine (take (to - at) (drop at s)) ≡ o → isNone o ≡ false
-      go none t = not-bad (labels host) (readLines (splitAt 10 s)) a (pass-bad (L .is a) g {q = bestOf (labels host) (readLine (take (to - at) (drop at s)))} refl (rw t bad))
+      go none t = not-bad (labels host) (readTable s) a (pass-bad (L .is a) g {q = bestOf (labels host) (readLine (take (to - at) (drop at s)))} refl (rw t bad))
         where
           bad : bestOf (labels host) none ≡ Bad
           bad = unfold bestOf in refl
       go (some rs) t = refl
 
   module _ {f : Finding} (F : FindsLine host (take (to - at) (drop at s)) f) {x y k : ℕ} (i : k ≡ to + length (takeWhile inLine (drop to s))) (u : x ≡ max e (f .exception)) (v : y ≡ max m (f .most)) where
-    next : isNone (readLines (splitAt 10 s)) ≡ false → Pass host s (bestOf (labels host) (readLines (splitAt 10 s))) x y (k + 1)
+    next : isNone (readTable s) ≡ false → Pass host s (bestOf (labels host) (readTable s)) x y (k + 1)
     next a = pass-more (L .is a) g {q = best f} (F .is (good-line a)) refl i u v
 
     pub looking-more : k < length s → Looking host s x y (k + 1)
     looking-more l = record { inside = omega arith; is = next }
 
-    pub looking-ends : {r : Finding} → length s ≤ k → r ≡ found x y → FindsLines host s r
+    pub looking-ends : {r : Finding} → length s ≤ k → r ≡ found x y → FindsTable host s r
     looking-ends l j = record { is = λ a. rw j (pass-ends (next a) (omega arith)) }
+
+-- ---- the pass over a table
+
+module _ (host s : Bytes) {q : Depths} (t : q ≡ depthsOf (labels host) (readTable s)) {r : Finding} where
+  pub pass-wrong : q ≡ Wrong → FindsTable host s r
+  pass-wrong w = record { is = λ a. go (readTable s) a (sym w ∙ t) }
+    where
+      go : {A : Type 0} (o : Option (List Rule)) → isNone o ≡ false → Wrong ≡ depthsOf (labels host) o → A
+      go none a e = true-false a
+      go (some rs) a e = unfold depthsOf in (let z : _≡_ {A = ℕ} 0 1 = cc in absurd (omega arith))
+
+  pub pass-found : {e m d : ℕ} → q ≡ Found e m d → r ≡ found e m → FindsTable host s r
+  pass-found {e} {m} {d} w i = record { is = λ a. rw i (to-best s host e m d (readTable s) (sym w ∙ t)) }
 
 -- a set for each function: a search that fails then tries every way
 pub ruleset host-laws = (host-found, host-none, needs)
@@ -156,5 +172,7 @@ pub ruleset exception-laws = (exception-found, exception-none, needs)
 pub ruleset any-laws = (empty-line, comment-line, star-line, wild-line, exception-line, host-line, wild-in, exception-in, needs)
 
 pub ruleset line-laws = (unmarked-line, needs)
+
+pub ruleset pass-laws = (pass-wrong, pass-found, needs)
 
 pub ruleset lines-laws = (looking-starts, line-from, line-to, looking-more, looking-ends, needs)

@@ -6,7 +6,7 @@ use mathlib.Core.List.{List, [], _∷_, _++_}
 use mathlib.Core.Option.{Option, none, some}
 use Prim.Native.Nat.{ℕ, _+_, _-_, _≤_, _<_, max}
 use native.Mathlib.Omega.{arith}
-use lib.ListN.{length, take, drop}
+use lib.ListN.{length, take, drop, length-take, length-drop}
 use lib.Dec.{eqb, leb, ltb}
 use borrow.Author.Needs.{needs}
 use borrow.Author.Tests.{eqb-true, le-ltb, ltb-true, ltb-false}
@@ -23,10 +23,11 @@ use Rattle.suffix.specs.declared.Deeper.{Deeper}
 use Rattle.suffix.proofs.Ends.{Alike, true-false}
 use Rattle.suffix.proofs.Answers.{Found, found, size-exception}
 use Rattle.suffix.proofs.Passes.{join-bad}
+use Rattle.suffix.proofs.Climbs.{table-short, table-read}
 use Rattle.suffix.proofs.Cuts.{best-both}
 use Rattle.suffix.proofs.Speed.{rule-same, rules-same, Within, within, home, label-size, by-size}
 use Rattle.suffix.proofs.Owned.{has-no-end}
-use Rattle.deeper_rules.specs.code.Findings.{FindsLines, Tells}
+use Rattle.deeper_rules.specs.code.Findings.{FindsTable, Tells}
 use Rattle.deeper_rules.specs.declared.Finding.{Finding}
 
 -- ---- numbers
@@ -126,13 +127,11 @@ module _ (ls g h : List Bytes) (lg : length ls ≤ length g) (eg : Alike (lastOf
 
 -- ---- the law
 
-table-lines : (hl : List Bytes) (table : Bytes) (e m : ℕ) → bestOf hl (readTable table) ≡ Sizes e m → readTable table ≡ readLines (splitAt 10 table)
-unfolding readTable
-table-lines hl table e m f = go (leb (length table) 1048576) f
-  where
-    go : (u : Bool) → bestOf hl (if u then readLines (splitAt 10 table) else none) ≡ Sizes e m → (if u then readLines (splitAt 10 table) else none) ≡ readLines (splitAt 10 table)
-    go true f = refl
-    go false f = unfold bestOf in (let z : _≡_ {A = ℕ} 0 1 = cc in absurd (omega arith))
+-- a table that finds something is good
+found-good : (hl : List Bytes) (o : Option (List Rule)) (e m : ℕ) → bestOf hl o ≡ Sizes e m → isNone o ≡ false
+unfolding bestOf
+found-good hl none e m f = let z : _≡_ {A = ℕ} 0 1 = cc in absurd (omega arith)
+found-good hl (some rs) e m f = refl
 
 -- what is held of one host
 module _ (table home₀ label : Bytes) (d : Deeper) (H : Held table home₀ label d) where
@@ -142,11 +141,21 @@ module _ (table home₀ label : Bytes) (d : Deeper) (H : Held table home₀ labe
   span : List Bytes
   span = splitAt 10 (take (d .to - d .from) (drop (d .from) table))
 
+  short : length table ≤ 1048576
+  short = table-short table (found-good (labels home₀) (readTable table) (d .exception) (d .most) (H .found))
+
+  -- the span is read as a table is
+  span-read : readTable (take (d .to - d .from) (drop (d .from) table)) ≡ readLines span
+  unfolding span
+  span-read =
+      sym (table-read (take (d .to - d .from) (drop (d .from) table))
+      (omega (arith, length-take (d .to - d .from) (drop (d .from) table), length-drop (d .from) table, short)))
+
   -- before the span, in it and behind it
   cut : (hl : List Bytes) → bestOf hl (readTable table) ≡ joinBest (bestOf hl (readLines (S .before))) (joinBest (bestOf hl (readLines span)) (bestOf hl (readLines (S .behind))))
   unfolding span
   cut hl =
-      rw (table-lines (labels home₀) table (d .exception) (d .most) (H .found), S .lines)
+      rw (← table-read table short, S .lines)
       (best-both hl (S .before) (span ++ S .behind) ∙ ap (joinBest (bestOf hl (readLines (S .before)))) (best-both hl span (S .behind)))
 
   -- a table that finds something is good, and so is its span
@@ -210,11 +219,13 @@ module _ (table label : Bytes) (d : Deeper) (h : Bytes) {b : Bool} (e : b ≡ en
   pub tells-not : b ≡ false → Tells table label d h false
   tells-not c = record { is = λ home₀ H a. has-no-end table h label e c }
 
-  module _ (c : b ≡ true) {s : Bytes} {f : Finding} (p : s ≡ take (d .to - d .from) (drop (d .from) table)) (F : FindsLines h s f) where
+  module _ (c : b ≡ true) {s : Bytes} {f : Finding} (p : s ≡ take (d .to - d .from) (drop (d .from) table)) (F : FindsTable h s f) where
     pub tells-by-size : {x y n k : ℕ} → x ≡ max (d .exception) (f .exception) → y ≡ max (d .most) (f .most) → k ≡ sizeOf (d .exception) (d .most) → n ≡ sizeOf x y → Tells table label d h (eqb n k)
     tells-by-size {x} {y} {n} {k} u v w i = record { is = λ home₀ H a. rw (w, i, u, v) (sym (by-size table home₀ label (H .label-is) h a (size home₀ H) (home-found table home₀ label d H) (sym e ∙ c))) }
       where
         size : (home₀ : Bytes) → Held table home₀ label d → Found table h (sizeOf (max (d .exception) (f .exception)) (max (d .most) (f .most)))
-        size home₀ H = unfold span in (joined-size table home₀ label d H h (sym e ∙ c) (f .exception) (f .most) (sym (rw p at (F .is) (span-good table home₀ label d H))))
+        size home₀ H =
+            let r = span-read table home₀ label d H in
+            joined-size table home₀ label d H h (sym e ∙ c) (f .exception) (f .most) (sym (rw (p, r) at (F .is) (span-good table home₀ label d H)))
 
 pub ruleset joined-laws = (tells-not, tells-by-size, needs)

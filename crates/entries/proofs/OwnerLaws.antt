@@ -127,7 +127,7 @@ module _ (s : Bytes) (end : ℕ) (table : Bytes) {host : Bytes} {w : Owner} (O :
         owned {o = record { start = 8 + i; end = end; deeper = d }} (found-label .good) (λ E. record {
           is = record {
             label-is = behind ∙ L .place .is ∙ ap orEmpty (own E);
-            deeper-is = L .some-is ∙ ap (deeperThan table) (own E);
+            deeper-is = L .present-is ∙ ap (deeperThan table) (own E);
             held = λ t. record { host = host; is = rw behind (L .held t) };
           };
         })
@@ -187,7 +187,7 @@ module _ (table label : Bytes) (deeper : Deeper) (host : Bytes) where
   differs-none n = record { is = λ appid O h. rw (empty-none appid table (O .label-is) n, agree-none (privateLabel table host)) }
 
   module _ (n : length label ≡ 0 → ⊥) {q : Bool} where
-    module _ (d : deeper .some ≡ true) (T : Tells table label deeper host q) where
+    module _ (d : deeper .present ≡ true) (T : Tells table label deeper host q) where
       by-lookup : (appid : Bytes) → Owns appid table label deeper → isHost host ≡ true → labelsAgree (privateLabel table host) (appLabel table appid) ≡ q
       by-lookup appid O h = let H = O .held d in rw (some-label (appLabel table appid) (O .label-is) n) (agree-some label (privateLabel table host) ∙ sym (T .is (H .host) (H .is) h))
 
@@ -197,7 +197,7 @@ module _ (table label : Bytes) (deeper : Deeper) (host : Bytes) where
       pub differs-so : q ≡ false → Differs table label deeper host true
       differs-so f = record { is = λ appid O h. rw (by-lookup appid O h, f) }
 
-    module _ (d : deeper .some ≡ false) (e : q ≡ endsAtLabel label host) where
+    module _ (d : deeper .present ≡ false) (e : q ≡ endsAtLabel label host) where
       by-end : (appid : Bytes) → Owns appid table label deeper → isHost host ≡ true → labelsAgree (privateLabel table host) (appLabel table appid) ≡ q
       by-end appid O h =
           let a : appLabel table appid ≡ some label = some-label (appLabel table appid) (O .label-is) n in

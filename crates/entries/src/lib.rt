@@ -15,7 +15,8 @@ pub enum AppId {
     Url(usize),
 }
 
-// Where the AppID's private label begins and ends in it, empty where it has none; and the rules that go deeper than it.
+// Where the AppID's private label begins and ends in it, empty where it has none; and what is held of the rules that go deeper than
+// it.
 pub struct Owner {
     pub start: usize,
     pub end: usize,
@@ -83,7 +84,7 @@ fn is_other_label(host: &[u8], label: &[u8], deeper: Deeper, table: &[u8]) -> bo
     if label.len() == 0 {
         return true;
     }
-    if deeper.some {
+    if deeper.present {
         if deeper_rules::has_label(host, label, deeper, table) {
             return false;
         }

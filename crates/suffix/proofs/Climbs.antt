@@ -20,7 +20,7 @@ use Rattle.suffix.specs.code.Depth.{depthOf, deepest, lineDepth, linesDe
 use Rattle.suffix.specs.declared.Best.{Best}
 use Rattle.suffix.specs.declared.Best.the-variants.{Bad, Sizes}
 use Rattle.suffix.specs.declared.Lookup.{Lookup}
-use Rattle.suffix.specs.declared.Lookup.the-variants.{Unread, Found as At}
+use Rattle.suffix.specs.declared.Lookup.the-variants.{BadTable, Found as At}
 use Rattle.suffix.specs.declared.Depths.{Depths}
 use Rattle.suffix.specs.declared.Depths.the-variants.{Wrong, Found}
 use Rattle.suffix.proofs.Ends.{both-ways, true-false, same-eq, labels-some, wild}
@@ -294,7 +294,16 @@ from-best host table l (some rs) t u e m d f g =
     let y : maxLabels (filterBy (matches (labels host)) rs) ≡ m = cc in
     rw (x, y, f, lines-rules (labels host) (splitAt 10 table) rs u)
 
-table-read : (table : Bytes) → length table ≤ 1048576 → readLines (splitAt 10 table) ≡ readTable table
+-- a good table is not too long
+pub table-short : (table : Bytes) → isNone (readTable table) ≡ false → length table ≤ 1048576
+unfolding readTable
+table-short table g = go (leb (length table) 1048576) refl g
+  where
+    go : (u : Bool) → leb (length table) 1048576 ≡ u → isNone (if u then readLines (splitAt 10 table) else none) ≡ false → length table ≤ 1048576
+    go true e g = leb-true (length table) 1048576 e
+    go false e g = true-false g
+
+pub table-read : (table : Bytes) → length table ≤ 1048576 → readLines (splitAt 10 table) ≡ readTable table
 unfolding readTable
 table-read table l = rw (le-leb (length table) 1048576 l)
 
@@ -339,7 +348,7 @@ module _ (table host : Bytes) where
   unfolding deeperThan
   none-found L b = record { place = L; found = b; deeper-is = rw (no-label table host L) }
 
-  pub lookup-bad : {q : Depths} → q ≡ depthsOf (labels host) (readTable table) → q ≡ Wrong → LookupIs table host Unread
+  pub lookup-bad : {q : Depths} → q ≡ depthsOf (labels host) (readTable table) → q ≡ Wrong → LookupIs table host BadTable
   lookup-bad t w = unread (go (readTable table) (sym w ∙ t))
     where
       go : (o : Option (List Rule)) → Wrong ≡ depthsOf (labels host) o → o ≡ none
@@ -351,7 +360,7 @@ module _ (table host : Bytes) where
   good-table e m d none f = let z : _≡_ {A = ℕ} 0 1 = cc in absurd (omega arith)
   good-table e m d (some rs) f = refl
 
-  pub start-bad : {q : Lookup} → LookupIs table host q → q ≡ Unread → LabelAt table host (length host)
+  pub start-bad : {q : Lookup} → LookupIs table host q → q ≡ BadTable → LabelAt table host (length host)
   start-bad (unread t) e = at-bad table host {q = bestOf (labels host) (readTable table)} refl (rw t none-best)
     where
       none-best : bestOf (labels host) none ≡ Bad

@@ -10,17 +10,17 @@ use Rattle.suffix.specs.Suffix.{readTable, privateLabel, orEmpty}
 use Rattle.suffix.specs.code.Depth.{deeperThan, LookupIs, unread, looked-up}
 use Rattle.suffix.specs.code.Span.{Spans, OwnerIs, bad-table, owner-is}
 use Rattle.suffix.specs.declared.Lookup.{Lookup}
-use Rattle.suffix.specs.declared.Lookup.the-variants.{Unread, Found as At}
+use Rattle.suffix.specs.declared.Lookup.the-variants.{BadTable as NoTable, Found as At}
 use Rattle.suffix.specs.declared.Owner.the-variants.{BadTable, Label}
 use Rattle.suffix.proofs.Ends.{true-false}
 use Rattle.suffix.proofs.Lines.{rest-whole}
 use Rattle.suffix.proofs.Climbs.{Looked, looked}
 
 module _ {table host : Bytes} {q : Lookup} (Q : LookupIs table host q) where
-  pub owner-bad : q ≡ Unread → OwnerIs table host BadTable
+  pub owner-bad : q ≡ NoTable → OwnerIs table host BadTable
   owner-bad e = go Q e
     where
-      go : {q : Lookup} → LookupIs table host q → q ≡ Unread → OwnerIs table host BadTable
+      go : {q : Lookup} → LookupIs table host q → q ≡ NoTable → OwnerIs table host BadTable
       go (unread t) e = bad-table t
       go (looked-up t L) e = let z : _≡_ {A = Bool} true false = cc in true-false z
 
@@ -34,8 +34,8 @@ module _ {table host : Bytes} {q : Lookup} (Q : LookupIs table host q) where
     pub owner-start : start ≤ length host
     owner-start = L .label .place .inside
 
-    pub owner-label : deeper ≡ false → OwnerIs table host (Label start (record { some = false; exception = e; most = m; from = 0; to = 0 }))
-    owner-label d = owner-is (L .good) (record { place = L .label .place; some-is = sym d ∙ L .label .deeper-is; held = λ t. true-false (sym t) })
+    pub owner-label : deeper ≡ false → OwnerIs table host (Label start (record { present = false; exception = e; most = m; from = 0; to = 0 }))
+    owner-label d = owner-is (L .good) (record { place = L .label .place; present-is = sym d ∙ L .label .deeper-is; held = λ t. true-false (sym t) })
 
     -- a label that a rule goes deeper than is one
     some-label : deeper ≡ true → privateLabel table host ≡ some (drop start host)
@@ -45,10 +45,10 @@ module _ {table host : Bytes} {q : Lookup} (Q : LookupIs table host q) where
         go none a b = unfold deeperThan in (true-false (sym a))
         go (some l) a b = ap some (sym b)
 
-    pub owner-deeper : {i j : ℕ} → deeper ≡ true → Spans table (take (length host - start) (drop start host)) i j → OwnerIs table host (Label start (record { some = true; exception = e; most = m; from = i; to = j }))
+    pub owner-deeper : {i j : ℕ} → deeper ≡ true → Spans table (take (length host - start) (drop start host)) i j → OwnerIs table host (Label start (record { present = true; exception = e; most = m; from = i; to = j }))
     owner-deeper d S = owner-is (L .good) (record {
       place = L .label .place;
-      some-is = sym d ∙ L .label .deeper-is;
+      present-is = sym d ∙ L .label .deeper-is;
       held = λ t. record { label-is = some-label d; found = sym (L .label .found); spans = rw (rest-whole host start) at S };
     })
 

@@ -34,12 +34,6 @@ module _ (lo hi b : ℕ) where
   unfolding placeIn
   place-here k e f = rw (← e, f)
 
-pub lesser-first : (a b : ℕ) → a < b → a ≡ min a b
-lesser-first a b h = omega arith
-
-pub lesser-second : (a b : ℕ) → b ≤ a → b ≡ min a b
-lesser-second a b h = omega arith
-
 -- what ends a scan by f is found before k, or the bytes before k go on
 pub data Seen (f : ℕ → Bool) (w : ℕ) (l : Bytes) (k : ℕ) : ℕ → Type 0 where
   seen : {r : ℕ} → r < k → r ≡ w → Seen f w l k r
@@ -188,11 +182,18 @@ outside-content b e = go (ltb b 9) refl
     go false u = sym (content-high b (ltb-true 32 b (unfold outside in (rw u at e))))
 
 module _ (s : Bytes) {from i j : ℕ} (g : j ≡ i + length (takeWhile (outside 9 32) (drop i s))) where
-  pub blank-next : SameEnd inContent s from i → SameEnd inContent s from j
-  blank-next E = record { is = rw (scan-rest (outside 9 32) s i j g) (omega (arith, g, while-two (outside 9 32) inContent outside-content (drop i s), E .is)) }
+  content-next : SameEnd inContent s from i → SameEnd inContent s from j
+  content-next E = record { is = rw (scan-rest (outside 9 32) s i j g) (omega (arith, g, while-two (outside 9 32) inContent outside-content (drop i s), E .is)) }
 
-pub blank-less : (s : Bytes) {i j : ℕ} → j ≡ i + 1 + length (takeWhile (outside 9 32) (drop (i + 1) s)) → i < length s → length s - j < length s - i
-blank-less s {i} {j} g h = omega (arith, g)
+pub content-starts : (s : Bytes) {from j : ℕ} → j ≡ from + length (takeWhile (outside 9 32) (drop from s)) → SameEnd inContent s from j
+content-starts s {from} g = content-next s g (end-starts inContent s from)
+
+pub content-more : (s : Bytes) {from i j : ℕ} {r : Bool} → SameEnd inContent s from i → j ≡ i + 1 + length (takeWhile (outside 9 32) (drop (i + 1) s)) → i < length s → r ≡ inContent (getD s i 0) → r ≡ true
+    → SameEnd inContent s from j
+content-more s E g h t w = content-next s g (end-next E h t w)
+
+pub content-less : (s : Bytes) {i j : ℕ} → j ≡ i + 1 + length (takeWhile (outside 9 32) (drop (i + 1) s)) → i < length s → length s - j < length s - i
+content-less s {i} {j} g h = omega (arith, g)
 
 pub ruleset block-laws = (block-starts, block-ends, block-more, needs)
 
@@ -201,8 +202,6 @@ pub ruleset range-laws = (
   outside-above,
   place-none,
   place-here,
-  lesser-first,
-  lesser-second,
   end-starts,
   end-out,
   end-short,
@@ -210,8 +209,10 @@ pub ruleset range-laws = (
   end-next,
   end-here,
   end-more,
-  line-is-range,
   needs,
 )
 
-pub ruleset blank-laws = (end-starts, end-out, end-found, end-next, blank-next, blank-less, needs)
+-- sets in which no law leads back to itself: a search that fails tries every way
+pub ruleset line-end-laws = (line-is-range, needs)
+
+pub ruleset content-laws = (content-starts, content-more, content-less, end-out, end-found, needs)

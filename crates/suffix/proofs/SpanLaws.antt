@@ -28,7 +28,7 @@ use Rattle.suffix.proofs.Lines.{rest-whole}
 use Rattle.suffix.proofs.Passes.{content-is, line-stops, lines-in, lines-out, lines-cut}
 use Rattle.suffix.proofs.Cuts.{split-both, read-both}
 use Rattle.suffix.proofs.PassedLines.{passed-on, passed-line, read-one}
-use Rattle.suffix.proofs.Climbs.{last-whole, any-depth}
+use Rattle.suffix.proofs.Climbs.{table-short, table-read, last-whole, any-depth}
 use Rattle.suffix.proofs.IdleLines.{stands-whole}
 use Rattle.suffix.proofs.SkipLaws.{part-start, part-end}
 
@@ -142,12 +142,7 @@ record Whole (table : Bytes) : Type 0 where
   pub good : isNone (readLines (linesFrom table 0)) ≡ false
 
 whole : (table : Bytes) → isNone (readTable table) ≡ false → Whole table
-unfolding readTable
-whole table g = go (leb (length table) 1048576) refl g
-  where
-    go : (u : Bool) → leb (length table) 1048576 ≡ u → isNone (if u then readLines (splitAt 10 table) else none) ≡ false → Whole table
-    go true e g = record { short = leb-true (length table) 1048576 e; good = rw (lines-in table 0 (omega arith)) g }
-    go false e g = true-false g
+whole table g = let s = table-short table g in record { short = s; good = rw (lines-in table 0 (omega arith), table-read table s) g }
 
 pub seeks-first : {kinds label table : Bytes} {n : ℕ} → KindsOf label kinds → n ≡ length (labels label) → isNone (readTable table) ≡ false → Seeks kinds label table n 0
 seeks-first {label} {table} K c g =

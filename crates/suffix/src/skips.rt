@@ -1,4 +1,4 @@
-// Lines of the table that find nothing for a host, passed over byte after byte.
+// The ends of lines; and lines of the table that find nothing for a host, passed over.
 use crate::hosts;
 use crate::in_content;
 ghost use mathlib.Core.Path.{_≡_};
@@ -253,14 +253,15 @@ pub fn line_end(s: &[u8], from: usize) -> usize
     first_in(s, from, b'\n', b'\n')
 }
 
-// Where what is read of a line ends: its first blank or LF, which are all from the tab to the space.
-pub fn blank_at(s: &[u8], from: usize) -> usize
+// Where what is read of a line ends: its first blank or LF. All of these lie between the tab and the space; another byte that does
+// stands in comments only.
+pub fn content_end(s: &[u8], from: usize) -> usize
     ensures { λ r. ⌜ r ≡ from + length (takeWhile inContent (drop from (now (s .entry)))) ⌝ }
 {
     let mut i = first_in(s, from, b'\t', b' ');
     while i < s.len() {
         if in_content(s[i]) {
-            i = first_in(s, i + 1, b'\t', b' ');
+            i = soon_in(s, i + 1, b'\t', b' ');
         } else {
             return i;
         }

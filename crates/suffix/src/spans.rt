@@ -1,7 +1,7 @@
 // The span of the table's lines that has every rule deeper than a label.
-use crate::content_end;
 use crate::hosts;
 use crate::line_depth;
+use crate::short_content_end;
 use crate::skips;
 ghost use mathlib.Core.Path.{_≡_};
 ghost use mathlib.Core.Bool.{false};
@@ -22,12 +22,12 @@ pub struct Span {
     pub to: usize,
 }
 
-// The good line at a place has a rule that goes deeper than more labels than the depth, one less than all.
+// The good line at a place has a rule that goes deeper than the whole label; the depth is one less than its labels.
 fn line_is_deeper(label: &[u8], depth: usize, table: &[u8], at: usize) -> bool
     requires { ⌜ Past (now label) (now label) depth × Good (takeWhile inContent (drop at (now table))) × (at < length (now table)) ⌝ }
     ensures { λ r. ⌜ r ≡ ltb depth (lineDepth (labels (now (label .entry))) (readLine (takeWhile inContent (drop at (now (table .entry)))))) ⌝ }
 {
-    let to = content_end(table, at);
+    let to = short_content_end(table, at);
     depth < line_depth(label, label, depth, &table[at..to])
 }
 
@@ -49,7 +49,8 @@ fn next_deeper(kinds: &[u8; 256], label: &[u8], count: usize, table: &[u8], from
     at
 }
 
-// The span from the first line with a rule deeper than the label to the last one; the whole of a table without such a line.
+// The span from the first line with a rule deeper than the label to the last one. A table without such a line, which no caller has,
+// is its own span.
 pub(crate) fn find_span(label: &[u8], table: &[u8]) -> Span
     requires { ⌜ isNone (readTable (now table)) ≡ false ⌝ }
     ensures { λ r. ⌜ Spans (now (table .entry)) (now (label .entry)) (r .from) (r .to) ⌝ }

@@ -2,10 +2,9 @@
 use mathlib.Core.Path.{_≡_}
 use mathlib.Core.Bool.{Bool, true, false}
 use Prim.Native.Nat.{ℕ}
-use Prim.Native.Char.{code}
-use Rattle.ascii.specs.Ascii.{Bytes, isNone, splitAt}
+use Rattle.ascii.specs.Ascii.{Bytes, isNone}
 use Rattle.suffix.specs.Host.{labels, isHost}
-use Rattle.suffix.specs.Suffix.{readRule, readLines, privateLabel}
+use Rattle.suffix.specs.Suffix.{readRule, readTable, privateLabel}
 use Rattle.suffix.specs.code.Pass.{bestOf, oneRule, readLine}
 use Rattle.suffix.specs.code.Deeper.{isTheLabel}
 use Rattle.suffix.specs.code.Depth.{Good}
@@ -33,9 +32,9 @@ pub record FindsRule (host w : Bytes) (r : Finding) : Type 0 where
 pub record FindsLine (host w : Bytes) (r : Finding) : Type 0 where
   pub is : Good w → best r ≡ bestOf (labels host) (readLine w)
 
--- the lines of s, where they are good
-pub record FindsLines (host s : Bytes) (r : Finding) : Type 0 where
-  pub is : isNone (readLines (splitAt (code "\n") s)) ≡ false → best r ≡ bestOf (labels host) (readLines (splitAt (code "\n") s))
+-- the table s, where it is good
+pub record FindsTable (host s : Bytes) (r : Finding) : Type 0 where
+  pub is : isNone (readTable s) ≡ false → best r ≡ bestOf (labels host) (readTable s)
 
 -- r tells whether the host has the label, for any host of which this is held
 pub record Tells (table label : Bytes) (held : Deeper) (host : Bytes) (r : Bool) : Type 0 where

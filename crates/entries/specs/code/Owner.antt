@@ -43,8 +43,8 @@ pub record Home (table label : Bytes) (deeper : Deeper) : Type 0 where
 -- label is the AppID's private label, empty where it has none; deeper tells whether a rule goes deeper than it, and what is held then
 pub record Owns (appid table label : Bytes) (deeper : Deeper) : Type 0 where
   pub label-is : label ≡ orEmpty (appLabel table appid)
-  pub deeper-is : deeper .some ≡ deeperThan table (appLabel table appid)
-  pub held : deeper .some ≡ true → Home table label deeper
+  pub deeper-is : deeper .present ≡ deeperThan table (appLabel table appid)
+  pub held : deeper .present ≡ true → Home table label deeper
 
 -- the same, where the label stands in the AppID between two places
 pub record Owned (appid table : Bytes) (o : Owner) : Type 0 where

@@ -14,7 +14,7 @@ use Rattle.suffix.specs.declared.Depths.{Depths}
 use Rattle.suffix.specs.declared.Depths.the-variants.{Wrong, Found}
 use Rattle.suffix.specs.declared.Best.the-variants.{Sizes}
 use Rattle.suffix.specs.declared.Lookup.{Lookup}
-use Rattle.suffix.specs.declared.Lookup.the-variants.{Unread, Found as At}
+use Rattle.suffix.specs.declared.Lookup.the-variants.{BadTable, Found as At}
 
 -- the most last labels of the host that the rule goes deeper than
 unfoldable pub depthOf : List Bytes → Rule → ℕ
@@ -64,5 +64,5 @@ pub record LabelFound (table host : Bytes) (start e m : ℕ) (deeper : Bool) : T
   pub deeper-is : deeper ≡ deeperThan table (privateLabel table host)
 
 pub data LookupIs (table host : Bytes) : Lookup → Type 0 where
-  unread : readTable table ≡ none → LookupIs table host Unread
+  unread : readTable table ≡ none → LookupIs table host BadTable
   looked-up : {start e m : ℕ} {deeper : Bool} → isNone (readTable table) ≡ false → LabelFound table host start e m deeper → LookupIs table host (At start e m deeper)

@@ -1,4 +1,4 @@
--- The rules that go deeper than a private label stand in one span of the table's lines.
+-- A span of the table's lines that has every rule deeper than a private label. Any such span is right; that it is short is measured, not proved.
 use mathlib.Core.Path.{_≡_}
 use mathlib.Core.List.{List, [], _++_}
 use mathlib.Core.Bool.{true, false}
@@ -49,8 +49,8 @@ pub record Held (table host label : Bytes) (d : Deeper) : Type 0 where
 -- where the label begins, whether a rule goes deeper, and what is held then
 pub record OwnerFound (table host : Bytes) (start : ℕ) (d : Deeper) : Type 0 where
   pub place : LabelAt table host start
-  pub some-is : d .some ≡ deeperThan table (privateLabel table host)
-  pub held : d .some ≡ true → Held table host (drop start host) d
+  pub present-is : d .present ≡ deeperThan table (privateLabel table host)
+  pub held : d .present ≡ true → Held table host (drop start host) d
 
 pub data OwnerIs (table host : Bytes) : Owner → Type 0 where
   bad-table : readTable table ≡ none → OwnerIs table host BadTable
