@@ -228,14 +228,19 @@ fn widest_rows(table: &Table) {
     table.rows(WIDEST, &shapes);
 }
 
-/// The published table with a rule below the plain owner as its first line and another as its last.
+/// Tables with a rule below the plain owner as the first line and another as the last: the published one, and of a
+/// mebibyte those of short lines and of one comment of control bytes.
 fn ends_rows(table: &Table) {
-    let text = format!("deep.{PLAIN}\n{}deeper.{PLAIN}\n", table.text);
-    let table = Table::new(&text, table.list);
-    let (beside, below) = (beside(table.list, PLAIN), below(PLAIN, &table.owners[PLAIN]));
-    let mixed = mixed(&beside, &below);
-    println!("\nThe published table with a deeper rule as its first line and another as its last:");
-    table.rows(PLAIN, &[beside, below, mixed]);
+    let short = "m\n".repeat(524_000);
+    let comment = format!("//{}\n", "c\u{b}".repeat(524_000));
+    let between = [("the published table", table.text), ("lines `m`", &short), ("a comment", &comment)];
+    for (name, between) in between {
+        let text = format!("deep.{PLAIN}\n{between}deeper.{PLAIN}\n");
+        let table = Table::new(&text, table.list);
+        let (beside, below) = (beside(table.list, PLAIN), below(PLAIN, &table.owners[PLAIN]));
+        println!("\nA deeper rule as the first line, another as the last, {name} between:");
+        table.rows(PLAIN, &[beside, below]);
+    }
 }
 
 fn all_rows(table: &Table) {

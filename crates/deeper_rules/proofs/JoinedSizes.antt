@@ -7,7 +7,7 @@ use mathlib.Core.Option.{Option, none, some}
 use Prim.Native.Nat.{ℕ, _+_, _-_, _≤_, _<_, max}
 use native.Mathlib.Omega.{arith}
 use lib.ListN.{length, take, drop, length-take, length-drop}
-use lib.Dec.{eqb, leb, ltb}
+use lib.Dec.{eqb, ltb}
 use borrow.Author.Needs.{needs}
 use borrow.Author.Tests.{eqb-true, le-ltb, ltb-true, ltb-false}
 use Rattle.ascii.specs.Ascii.{Bytes, if_then_else_, isNone, filterBy, lastOf, splitAt}

@@ -234,7 +234,7 @@ module _ (h w : Bytes) where
 
 -- ---- the pass
 
-lines-rules : (hl ls : List Bytes) (rules : List Rule) → readLines ls ≡ some rules → linesDepth hl ls ≡ deepest hl rules
+pub lines-rules : (hl ls : List Bytes) (rules : List Rule) → readLines ls ≡ some rules → linesDepth hl ls ≡ deepest hl rules
 unfolding readLines linesDepth deepest
 lines-rules hl [] rules e = let z : rules ≡ [] = cc in rw z
 lines-rules hl (l ∷ ls) rules e = go (isSkipped (content l)) (readRule (content l)) (readLines ls) refl refl (lines-rules hl ls) e

@@ -11,7 +11,7 @@ use Rattle.ascii.specs.Ascii.{Bytes, if_then_else_, _>>=_, joinHead, splitAt}
 use Rattle.ascii.proofs.Split.{Parts, split-parts}
 use Rattle.suffix.specs.Suffix.{Rule, content, isSkipped, readRule, readLines}
 use Rattle.suffix.specs.code.Pass.{bestOf, joinBest, readLine}
-use Rattle.suffix.specs.code.Depth.{deepest}
+use Rattle.suffix.specs.code.Depth.{deepest, linesDepth}
 use Rattle.suffix.proofs.Passes.{lines-step, none-sizes, join-zero, join-assoc}
 
 -- the lines of two texts with an LF between
@@ -48,6 +48,11 @@ pub deepest-both : (hl : List Bytes) (xs ys : List Rule) → deepest hl (xs ++ y
 unfolding deepest
 deepest-both hl [] ys = omega arith
 deepest-both hl (r ∷ xs) ys = rw (deepest-both hl xs ys) (omega arith)
+
+pub depth-both : (hl ks ls : List Bytes) → linesDepth hl (ks ++ ls) ≡ max (linesDepth hl ks) (linesDepth hl ls)
+unfolding linesDepth
+depth-both hl [] ls = omega arith
+depth-both hl (k ∷ ks) ls = rw (depth-both hl ks ls) (omega arith)
 
 -- what the lines of a table cut in two find is what both parts find, joined
 pub best-both : (host ks ls : List Bytes) → bestOf host (readLines (ks ++ ls)) ≡ joinBest (bestOf host (readLines ks)) (bestOf host (readLines ls))

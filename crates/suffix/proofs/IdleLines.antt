@@ -20,27 +20,28 @@ use Rattle.suffix.specs.code.Depth.{lineDepth, linesDepth, Past}
 use Rattle.suffix.specs.code.Deeper.{goesDeeper}
 use Rattle.suffix.specs.declared.Best.{Best}
 use Rattle.suffix.specs.declared.Best.the-variants.{Sizes}
+use Rattle.suffix.specs.code.Span.{linesFrom}
 use Rattle.suffix.specs.code.Idle.{Idle, Shallow, lastByte, isAlphanumeric}
 use Rattle.suffix.proofs.Ends.{true-false, same-eq, labels-some, begin-labels, begin-is, ends-whole}
 use Rattle.suffix.proofs.Shapes.{host-empty}
 use Rattle.suffix.proofs.Lines.{no-host, rule-host, host-yes, host-no, begins-is, other-read, line-empty, line-comment}
-use Rattle.suffix.proofs.Passes.{join-zero, join-join, lines-at, lines-on}
+use Rattle.suffix.proofs.Passes.{lines-of, join-zero, join-join, lines-at}
 use Rattle.suffix.proofs.Deepens.{name-not, name-ends}
+use Rattle.suffix.proofs.Cuts.{depth-both}
 use Rattle.suffix.proofs.PassedLines.{passed-none, passed-on, passed-more, passed-line}
-use Rattle.suffix.proofs.Climbs.{shallow, depth-one, lines-more, lines-done, line-good, depth-empty, depth-comment}
+use Rattle.suffix.proofs.Climbs.{lines-rules, shallow, depth-one, lines-done, line-good, depth-empty, depth-comment}
 use Rattle.suffix.proofs.PlainHosts.{no-plain, dot-plain}
 
 -- ---- places
 
 pub idle-none : (host table : Bytes) (at : ℕ) → at ≤ length table + 1 → Idle host table at at
-idle-none host table at h = record { onward = omega arith; inside = h; best = refl; depth = refl; passed = passed-none host table at }
+idle-none host table at h = record { onward = omega arith; inside = h; best = refl; passed = passed-none host table at }
 
 pub idle-on : (host table : Bytes) {from at to : ℕ} → Idle host table from at → Idle host table at to → Idle host table from to
 idle-on host table I J = record {
   onward = omega (arith, I .onward, J .onward);
   inside = J .inside;
   best = I .best ∙ J .best;
-  depth = I .depth ∙ J .depth;
   passed = passed-on (I .passed) (J .passed);
 }
 
@@ -48,12 +49,10 @@ idle-on host table I J = record {
 pub idle-line : (host table : Bytes) (at to : ℕ) → at ≤ length table → to ≡ at + length (takeWhile inLine (drop at table))
     → Sizes 0 0 ≡ bestOf (labels host) (readLine (takeWhile inContent (drop at table))) → 0 ≡ lineDepth (labels host) (readLine (takeWhile inContent (drop at table))) → Idle host table at (to + 1)
 idle-line host table at to h g b d =
-    let s = lines-on (linesDepth (labels host)) (λ l. lineDepth (labels host) (readLine l)) max (lines-more (labels host)) (lines-done (labels host)) table at to g in
     record {
       onward = omega (arith, g);
       inside = omega (arith, scan-to inLine table at to g h);
       best = lines-at (labels host) table at to g ∙ rw (← b) (join-zero (bestOf (labels host) (readLines (splitAt 10 (drop (to + 1) table)))));
-      depth = omega (arith, s, d);
       passed = passed-line host table 0 at to h g (line-good (labels host) (takeWhile inContent (drop at table)) b refl) (omega (arith, d));
     }
 
@@ -231,21 +230,27 @@ join-small m n b h = let z : max m n ≡ m = omega arith in join-join 0 m 0 n b 
 
 pub shallow-line : (host table : Bytes) (m d at to : ℕ) → at ≤ length table → to ≡ at + length (takeWhile inLine (drop at table)) → Brings host (takeWhile inContent (drop at table)) m d → Shallow host table m d at (to + 1)
 shallow-line host table m d at to h g F =
-    let s = lines-on (linesDepth (labels host)) (λ l. lineDepth (labels host) (readLine l)) max (lines-more (labels host)) (lines-done (labels host)) table at to g in
     record {
       onward = omega (arith, g);
       inside = omega (arith, scan-to inLine table at to g h);
       best = ap (joinBest (Sizes 0 m)) (lines-at (labels host) table at to g) ∙ rw (← F .best) (join-small m (F .size) (bestOf (labels host) (readLines (splitAt 10 (drop (to + 1) table)))) (F .small));
-      depth = omega (arith, s, F .depth);
       passed = passed-line host table d at to h g (line-good (labels host) (takeWhile inContent (drop at table)) (F .best) refl) (F .depth);
     }
+
+-- how deep the lines go from a place, and from another behind lines that go no deeper than d
+pub shallow-depth : {host table : Bytes} {m d from to : ℕ} → Shallow host table m d from to
+    → max d (linesDepth (labels host) (splitAt 10 (drop from table))) ≡ max d (linesDepth (labels host) (splitAt 10 (drop to table)))
+shallow-depth {host} {table} {d = d} {from = from} {to = to} I =
+    let P = I .passed in
+    let a = lines-rules (labels host) (P .lines) (P .rules) (P .read) in
+    let e : (at : ℕ) → linesDepth (labels host) (linesFrom table at) ≡ linesDepth (labels host) (splitAt 10 (drop at table)) = lines-of (linesDepth (labels host)) (lines-done (labels host)) table in
+    rw (← e from, ← e to, P .are, depth-both (labels host) (P .lines) (linesFrom table to), a) (omega (arith, P .depth))
 
 pub shallow-of : {host table : Bytes} (m d : ℕ) {from to : ℕ} → Idle host table from to → Shallow host table m d from to
 shallow-of m d I = record {
   onward = I .onward;
   inside = I .inside;
   best = ap (joinBest (Sizes 0 m)) (I .best);
-  depth = ap (max d) (I .depth);
   passed = passed-more (omega arith) (I .passed);
 }
 
@@ -254,6 +259,5 @@ shallow-on I J = record {
   onward = omega (arith, I .onward, J .onward);
   inside = J .inside;
   best = I .best ∙ J .best;
-  depth = I .depth ∙ J .depth;
   passed = passed-on (I .passed) (J .passed);
 }

@@ -186,18 +186,22 @@ lines-cut s at to g = rw (split-while inLine 10 lf-ends (drop at s), ← scan-re
         let l = ltb-false to (length s) e in
         rw (lines-out s (to + 1) (omega arith), drop-of-length-le s l, on-first-end 10 (takeWhile inLine (drop at s)))
 
+-- where an empty line finds nothing, the end of the table does not matter
+pub lines-of : {A : Type 0} (f : List Bytes → A) → f (splitAt 10 []) ≡ f [] → (s : Bytes) (at : ℕ) → f (linesFrom s at) ≡ f (splitAt 10 (drop at s))
+lines-of f done s at = go (ltb (length s) at) refl
+  where
+    go : (u : Bool) → ltb (length s) at ≡ u → f (linesFrom s at) ≡ f (splitAt 10 (drop at s))
+    go true e =
+        let l = ltb-true (length s) at e in
+        let k : length s ≤ at = omega arith in
+        rw (lines-out s at l, drop-of-length-le s k, done)
+    go false e = rw (lines-in s at (ltb-false (length s) at e))
+
 -- any finding f of lines that goes line by line
 module _ {A : Type 0} (f : List Bytes → A) (one : Bytes → A) (op : A → A → A) (step : (l : Bytes) (ls : List Bytes) → f (l ∷ ls) ≡ op (one (content l)) (f ls)) (done : f (splitAt 10 []) ≡ f [])
     (s : Bytes) (at to : ℕ) (g : to ≡ at + length (takeWhile inLine (drop at s))) where
   pub lines-on : f (splitAt 10 (drop at s)) ≡ op (one (takeWhile inContent (drop at s))) (f (splitAt 10 (drop (to + 1) s)))
-  lines-on = rw (lines-cut s at to g, ← content-is (drop at s), ← rest (ltb (length s) (to + 1)) refl) (step (takeWhile inLine (drop at s)) (linesFrom s (to + 1)))
-    where
-      rest : (u : Bool) → ltb (length s) (to + 1) ≡ u → f (linesFrom s (to + 1)) ≡ f (splitAt 10 (drop (to + 1) s))
-      rest true e =
-          let l = ltb-true (length s) (to + 1) e in
-          let k : length s ≤ to + 1 = omega arith in
-          rw (lines-out s (to + 1) l, drop-of-length-le s k, done)
-      rest false e = rw (lines-in s (to + 1) (ltb-false (length s) (to + 1) e))
+  lines-on = rw (lines-cut s at to g, ← content-is (drop at s), ← lines-of f done s (to + 1)) (step (takeWhile inLine (drop at s)) (linesFrom s (to + 1)))
 
 pub lines-at : (host : List Bytes) (s : Bytes) (at to : ℕ) → to ≡ at + length (takeWhile inLine (drop at s))
     → bestOf host (readLines (splitAt 10 (drop at s))) ≡ joinBest (bestOf host (readLine (takeWhile inContent (drop at s)))) (bestOf host (readLines (splitAt 10 (drop (to + 1) s))))

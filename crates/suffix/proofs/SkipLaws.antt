@@ -28,7 +28,7 @@ use Rattle.suffix.specs.declared.skips.Stop.{Stop}
 use Rattle.suffix.specs.declared.skips.Stop.the-variants.{Host, Other}
 use Rattle.suffix.proofs.Passes.{join-join, pass-fits}
 use Rattle.suffix.proofs.Climbs.{Deeps, deeps-starts, deeps-more, deeps-bad, deeps-ends, past-is, wrong-best}
-use Rattle.suffix.proofs.IdleLines.{idle-none, idle-on, idle-empty, idle-comment, tail-more, tail-whole, brings-to, shallow-line, shallow-of, shallow-on}
+use Rattle.suffix.proofs.IdleLines.{idle-none, idle-on, idle-empty, idle-comment, tail-more, tail-whole, brings-to, shallow-line, shallow-depth, shallow-of, shallow-on}
 
 -- ---- comments and empty lines
 
@@ -178,7 +178,7 @@ shallow-deeps {host} {table} {e} {m} {d} {at} {to} D I = record {
     is = join-parts e m (bestOf (labels host) (readLines (splitAt 10 (drop to table)))) ∙ ap (joinBest (Sizes e 0)) (sym (I .best))
         ∙ sym (join-parts e m (bestOf (labels host) (readLines (splitAt 10 (drop at table))))) ∙ D .pass .is;
   };
-  depth = sym (I .depth) ∙ D .depth;
+  depth = sym (shallow-depth I) ∙ D .depth;
 }
 
 pub passes-first : {kinds host table : Bytes} {last : ℕ} → length table ≤ 1048576 → KindsOf host kinds → Stands (lastOf 1 (labels host)) host last → Passes kinds host table 0 last 0

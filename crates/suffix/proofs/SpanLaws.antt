@@ -10,10 +10,10 @@ use mir.Val.{Fits}
 use mir.Syntax.{w64}
 use lib.ListN.{length, getD, take, drop, take-append-drop, drop-of-length-le, length-drop}
 use lib.Seq.{drop-cons, drop-drop, take-all}
-use lib.Dec.{leb, ltb}
+use lib.Dec.{ltb}
 use borrow.Author.Needs.{needs}
-use borrow.Author.Tests.{lt-leb, lt-ltb, leb-true, ltb-true, ltb-false}
-use Rattle.ascii.specs.Ascii.{Bytes, if_then_else_, _>>=_, isNone, any, takeWhile, splitAt}
+use borrow.Author.Tests.{lt-leb, lt-ltb, ltb-true, ltb-false}
+use Rattle.ascii.specs.Ascii.{Bytes, _>>=_, isNone, any, takeWhile, splitAt}
 use Rattle.ascii.proofs.Scan.{scan-part, scan-from, scan-to}
 use Rattle.suffix.specs.Host.{labels}
 use Rattle.suffix.specs.Suffix.{Rule, content, isSkipped, readLines, readTable}

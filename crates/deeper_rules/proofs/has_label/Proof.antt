@@ -7,12 +7,21 @@ pub has-label-spec : {M : Type 1} → statement M
 has-label-spec =
     tie.close
     (tie.spec
-    {- ends-at-label-requires -} (λ c κs. search joined-laws)
-    {- part-requires -} (λ c κs. search joined-laws)
-    {- table-finding-requires -} (λ c κs. search joined-laws)
-    {- larger-requires -} (λ c κs. search joined-laws)
-    {- larger-requires-2 -} (λ c κs. search joined-laws)
-    {- suffix-size-requires -} (λ c κs. search joined-laws)
-    {- suffix-size-requires-2 -} (λ c κs. search joined-laws)
-    {- returns -} (λ c. search joined-laws)
-    {- returns-2 -} (λ c. search joined-laws))
+    {- ends-at-label-requires -}
+    (λ c κs. search joined-laws)
+    {- part-requires -}
+    (λ c κs. search joined-laws)
+    {- table-finding-requires -}
+    (λ c κs. search joined-laws)
+    {- larger-requires -}
+    (λ c κs. search joined-laws)
+    {- larger-requires-2 -}
+    (λ c κs. search joined-laws)
+    {- suffix-size-requires -}
+    (λ c κs. search joined-laws)
+    {- suffix-size-requires-2 -}
+    (λ c κs. search joined-laws)
+    {- returns -}
+    (λ c. search joined-laws)
+    {- returns-2 -}
+    (λ c. search joined-laws))

@@ -18,17 +18,31 @@ lines-finding-spec =
     (tie.spec
     Inv-loop
     μ-loop
-    {- loop-holds -} (λ c. search lines-laws)
-    {- content-end-requires -} (λ c κs. search lines-laws)
-    {- sub-line-finding -} (λ c. search lines-laws)
-    {- part-line-finding-start -} (λ c. search lines-laws)
-    {- part-line-finding-end -} (λ c. search lines-laws)
-    {- line-finding-requires -} (λ c κs. search lines-laws)
-    {- larger-requires -} (λ c κs. search lines-laws)
-    {- larger-requires-2 -} (λ c κs. search lines-laws)
-    {- line-end-requires -} (λ c κs. search lines-laws)
-    {- sizes-requires -} (λ c κs. search lines-laws)
-    {- returns -} (λ c. search lines-laws)
-    {- add-at -} (λ c. search lines-laws)
-    {- loop-less -} (λ c. search lines-laws)
-    {- loop-again -} (λ c. search lines-laws))
+    {- loop-holds -}
+    (λ c. search lines-laws)
+    {- content-end-requires -}
+    (λ c κs. search lines-laws)
+    {- sub-line-finding -}
+    (λ c. search lines-laws)
+    {- part-line-finding-start -}
+    (λ c. search lines-laws)
+    {- part-line-finding-end -}
+    (λ c. search lines-laws)
+    {- line-finding-requires -}
+    (λ c κs. search lines-laws)
+    {- larger-requires -}
+    (λ c κs. search lines-laws)
+    {- larger-requires-2 -}
+    (λ c κs. search lines-laws)
+    {- line-end-requires -}
+    (λ c κs. search lines-laws)
+    {- sizes-requires -}
+    (λ c κs. search lines-laws)
+    {- returns -}
+    (λ c. search lines-laws)
+    {- add-at -}
+    (λ c. search lines-laws)
+    {- loop-less -}
+    (λ c. search lines-laws)
+    {- loop-again -}
+    (λ c. search lines-laws))

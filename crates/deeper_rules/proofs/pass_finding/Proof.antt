@@ -7,10 +7,17 @@ pub pass-finding-spec : {M : Type 1} → statement M
 pass-finding-spec =
     tie.close
     (tie.spec
-    {- deep-rules-requires -} (λ c κs. search pass-laws)
-    {- enum-known-found -} (λ c. search pass-laws)
-    {- enum-told -} (λ c. search pass-laws)
-    {- sizes-requires -} (λ c κs. search pass-laws)
-    {- returns -} (λ c. search pass-laws)
-    {- sizes-requires-2 -} (λ c κs. search pass-laws)
-    {- returns-2 -} (λ c. search pass-laws))
+    {- deep-rules-requires -}
+    (λ c κs. search pass-laws)
+    {- enum-known-found -}
+    (λ c. search pass-laws)
+    {- enum-told -}
+    (λ c. search pass-laws)
+    {- sizes-requires -}
+    (λ c κs. search pass-laws)
+    {- returns -}
+    (λ c. search pass-laws)
+    {- sizes-requires-2 -}
+    (λ c κs. search pass-laws)
+    {- returns-2 -}
+    (λ c. search pass-laws))

@@ -20,11 +20,19 @@ short-content-end-spec =
     (tie.spec
     Inv-loop
     μ-loop
-    {- loop-holds -} (λ c. search laws)
-    {- shared-slice-read-in-content -} (λ c. search laws)
-    {- in-content-requires -} (λ c κs. search laws)
-    {- add-i -} (λ c. search laws)
-    {- loop-less -} (λ c. search laws)
-    {- loop-again -} (λ c. search laws)
-    {- returns -} (λ c. search laws)
-    {- returns-2 -} (λ c. search laws))
+    {- loop-holds -}
+    (λ c. search laws)
+    {- shared-slice-read-in-content -}
+    (λ c. search laws)
+    {- in-content-requires -}
+    (λ c κs. search laws)
+    {- add-i -}
+    (λ c. search laws)
+    {- loop-less -}
+    (λ c. search laws)
+    {- loop-again -}
+    (λ c. search laws)
+    {- returns -}
+    (λ c. search laws)
+    {- returns-2 -}
+    (λ c. search laws))

@@ -1,7 +1,7 @@
 -- Lines of the table that find nothing for a host, as one loop over their bytes passes over them.
 use mathlib.Core.Path.{_≡_}
 use mathlib.Core.Bool.{Bool, true, _&&_, _||_}
-use Prim.Native.Nat.{ℕ, suc, _+_, _-_, _*_, _≤_, _<_, max}
+use Prim.Native.Nat.{ℕ, suc, _+_, _-_, _*_, _≤_, _<_}
 use Prim.Native.Char.{code}
 use lib.ListN.{length, take, drop, getD}
 use lib.Dec.{eqb, leb, ltb}
@@ -10,7 +10,6 @@ use Rattle.suffix.specs.Host.{labels, isHost}
 use Rattle.suffix.specs.code.Place.{Stands}
 use Rattle.suffix.specs.Suffix.{readLines}
 use Rattle.suffix.specs.code.Pass.{bestOf, joinBest, inLine, inContent}
-use Rattle.suffix.specs.code.Depth.{linesDepth}
 use Rattle.suffix.specs.code.Span.{Passed}
 use Rattle.suffix.specs.declared.Best.the-variants.{Sizes}
 use Rattle.suffix.specs.declared.skips.Step.{Step}
@@ -23,7 +22,6 @@ pub record Idle (host table : Bytes) (from to : ℕ) : Type 0 where
   pub onward : from ≤ to
   pub inside : to ≤ length table + 1
   pub best : bestOf (labels host) (readLines (splitAt (code "\n") (drop from table))) ≡ bestOf (labels host) (readLines (splitAt (code "\n") (drop to table)))
-  pub depth : linesDepth (labels host) (splitAt (code "\n") (drop from table)) ≡ linesDepth (labels host) (splitAt (code "\n") (drop to table))
   -- which lines these are
   pub passed : Passed host table 0 from to
 
@@ -101,6 +99,5 @@ pub record Shallow (host table : Bytes) (m d from to : ℕ) : Type 0 where
   pub onward : from ≤ to
   pub inside : to ≤ length table + 1
   pub best : joinBest (Sizes 0 m) (bestOf (labels host) (readLines (splitAt (code "\n") (drop from table)))) ≡ joinBest (Sizes 0 m) (bestOf (labels host) (readLines (splitAt (code "\n") (drop to table))))
-  pub depth : max d (linesDepth (labels host) (splitAt (code "\n") (drop from table))) ≡ max d (linesDepth (labels host) (splitAt (code "\n") (drop to table)))
   -- which lines these are
   pub passed : Passed host table d from to

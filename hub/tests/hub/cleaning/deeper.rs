@@ -249,3 +249,37 @@ fn generated_lists_under_deeper_rules_beside_the_model() {
         assert!(codes.get(&code) >= Some(&1_000), "decisions {code}");
     }
 }
+
+/// Between two deeper rules lie lines of this kind, so many that the span has this length.
+fn spanned(filler: &str, span: usize) -> Vec<u8> {
+    let (first, last) = ("a.example.com\n!x.b.example.com\n*.b.example.com\n", "\nc.example.com");
+    let room = span - first.len() - last.len();
+    let mut between = filler.repeat(room / filler.len());
+    between.push_str(&" ".repeat(room - between.len()));
+    format!("com\n{first}{between}{last}\n").into_bytes()
+}
+
+#[test]
+fn spans_on_both_sides_of_the_length_that_is_looked_at_line_by_line() {
+    let long = format!("{}.d.example.com\n", "l".repeat(63));
+    let blanks = format!("e.example.com{}x\n", " ".repeat(80));
+    let comment = "//\u{b}\u{1f}c\u{b} and some more bytes than one block of sixty-four has in it\n";
+    let fillers = ["m\n", "\n", "m.com\r\n", "//\n", comment, &long, &blanks];
+    let hosts = ["www", "a", "w.a", "b", "y.b", "w.y.b", "x.b", "w.x.b", "c", "w.c", "e", "w.e", "w.l.d"];
+    let ids: Vec<String> = hosts.iter().map(|host| format!("https://{host}.example.com")).collect();
+    for filler in fillers {
+        for span in [200, 4096, 8191, 8192, 8193, 8194, 20_000] {
+            let mut case = hand::case(&ids);
+            case.table = spanned(filler, span);
+            let [kept, .., other_label] = check::tallying(&case).expect("a good table");
+            assert!(kept >= 3 && other_label >= 8, "{filler:?}, {span} bytes");
+            check::cleaning(&case, &[0; 1000]).expect("room");
+            // Each caller is one of the entries: those that are kept are allowed, by rule 3 where it is the AppID's host.
+            let allowed = ids.iter().filter(|caller| {
+                case.caller = caller.as_bytes().into();
+                [3, 4].contains(&code(check::decision(&case)))
+            });
+            assert_eq!(allowed.count(), kept as usize, "{filler:?}, {span} bytes");
+        }
+    }
+}

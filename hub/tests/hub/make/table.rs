@@ -51,7 +51,7 @@ pub fn line(random: &mut Random) -> Vec<u8> {
 /// A line with this rule: mostly the rule alone; else with bytes behind it, in a comment, behind a blank, or empty.
 pub fn line_of(random: &mut Random, rule: Vec<u8>) -> Vec<u8> {
     match random.below(12) {
-        0 => [random.pick(&[&b"// "[..], b"//", b"//\xc3\xbc\0"]), &rule].concat(),
+        0 => [random.pick(&[&b"// "[..], b"//", b"//\xc3\xbc\0", b"//\x0b\x1f"]), &rule].concat(),
         1 => [random.pick(&[&b" "[..], b"\t", b"\r"]), &rule].concat(),
         2 => [&rule[..], random.pick(&[&b" x"[..], b"\t!", b"\r", b"  ", b" //", b"\t\xff"])].concat(),
         3 => Vec::new(),

@@ -19,13 +19,23 @@ content-end-spec =
     (tie.spec
     Inv-loop
     μ-loop
-    {- first-in-requires -} (λ c κs. search content-laws)
-    {- loop-holds -} (λ c. search content-laws)
-    {- shared-slice-read-in-content -} (λ c. search content-laws)
-    {- in-content-requires -} (λ c κs. search content-laws)
-    {- add-soon-in -} (λ c. search content-laws)
-    {- soon-in-requires -} (λ c κs. search content-laws)
-    {- loop-less -} (λ c. search content-laws)
-    {- loop-again -} (λ c. search content-laws)
-    {- returns -} (λ c. search content-laws)
-    {- returns-2 -} (λ c. search content-laws))
+    {- first-in-requires -}
+    (λ c κs. search content-laws)
+    {- loop-holds -}
+    (λ c. search content-laws)
+    {- shared-slice-read-in-content -}
+    (λ c. search content-laws)
+    {- in-content-requires -}
+    (λ c κs. search content-laws)
+    {- add-soon-in -}
+    (λ c. search content-laws)
+    {- soon-in-requires -}
+    (λ c κs. search content-laws)
+    {- loop-less -}
+    (λ c. search content-laws)
+    {- loop-again -}
+    (λ c. search content-laws)
+    {- returns -}
+    (λ c. search content-laws)
+    {- returns-2 -}
+    (λ c. search content-laws))
