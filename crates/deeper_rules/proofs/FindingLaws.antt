@@ -146,8 +146,13 @@ module _ {host s : Bytes} {e m at to : ℕ} (L : Looking host s e m at) (g : to 
     pub looking-more : k < length s → Looking host s x y (k + 1)
     looking-more l = record { inside = omega arith; is = next }
 
-    pub looking-ends : {r : Finding} → length s ≤ k → r ≡ found x y → FindsTable host s r
-    looking-ends l j = record { is = λ a. rw j (pass-ends (next a) (omega arith)) }
+    ends : {r : Finding} → length s ≤ k → r ≡ found x y → FindsTable host s r
+    ends l j = record { is = λ a. rw j (pass-ends (next a) (omega arith)) }
+
+-- its premises from the last to the first, so that each fixes the next one's unknowns
+pub looking-ends : {host s : Bytes} {e m at to x y k : ℕ} {f r : Finding} → r ≡ found x y → x ≡ max e (f .exception) → y ≡ max m (f .most) → length s ≤ k → k ≡ to + length (takeWhile inLine (drop to s))
+    → FindsLine host (take (to - at) (drop at s)) f → to ≡ at + length (takeWhile inContent (drop at s)) → Looking host s e m at → FindsTable host s r
+looking-ends j u v l i F g L = ends L g F i u v l j
 
 -- ---- the pass over a table
 
@@ -162,7 +167,7 @@ module _ (host s : Bytes) {q : Depths} (t : q ≡ depthsOf (labels host) (readTa
   pub pass-found : {e m d : ℕ} → q ≡ Found e m d → r ≡ found e m → FindsTable host s r
   pass-found {e} {m} {d} w i = record { is = λ a. rw i (to-best s host e m d (readTable s) (sym w ∙ t)) }
 
--- a set for each function: a search that fails then tries every way
+-- a set for each function, and for some ways out alone: a search that fails then tries every way
 pub ruleset host-laws = (host-found, host-none, needs)
 
 pub ruleset wild-laws = (wild-too-long, wild-found, wild-whole, wild-none, wild-fits, needs)
@@ -176,3 +181,11 @@ pub ruleset line-laws = (unmarked-line, needs)
 pub ruleset pass-laws = (pass-wrong, pass-found, needs)
 
 pub ruleset lines-laws = (looking-starts, line-from, line-to, looking-more, looking-ends, needs)
+
+pub ruleset wild-match = (wild-found)
+
+pub ruleset star-alone = (star-line)
+
+pub ruleset looked = (looking-ends)
+
+pub ruleset looks-on = (looking-more)

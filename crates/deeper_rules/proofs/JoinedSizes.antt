@@ -219,13 +219,18 @@ module _ (table label : Bytes) (d : Deeper) (h : Bytes) {b : Bool} (e : b ≡ en
   pub tells-not : b ≡ false → Tells table label d h false
   tells-not c = record { is = λ home₀ H a. has-no-end table h label e c }
 
-  module _ (c : b ≡ true) {s : Bytes} {f : Finding} (p : s ≡ take (d .to - d .from) (drop (d .from) table)) (F : FindsTable h s f) where
-    pub tells-by-size : {x y n k : ℕ} → x ≡ max (d .exception) (f .exception) → y ≡ max (d .most) (f .most) → k ≡ sizeOf (d .exception) (d .most) → n ≡ sizeOf x y → Tells table label d h (eqb n k)
-    tells-by-size {x} {y} {n} {k} u v w i = record { is = λ home₀ H a. rw (w, i, u, v) (sym (by-size table home₀ label (H .label-is) h a (size home₀ H) (home-found table home₀ label d H) (sym e ∙ c))) }
-      where
-        size : (home₀ : Bytes) → Held table home₀ label d → Found table h (sizeOf (max (d .exception) (f .exception)) (max (d .most) (f .most)))
-        size home₀ H =
-            let r = span-read table home₀ label d H in
-            joined-size table home₀ label d H h (sym e ∙ c) (f .exception) (f .most) (sym (rw (p, r) at (F .is) (span-good table home₀ label d H)))
+-- its premises from the last to the first, so that each fixes the next one's unknowns
+pub tells-by-size : {table label h s : Bytes} {d : Deeper} {f : Finding} {b : Bool} {x y n k : ℕ} → n ≡ sizeOf x y → k ≡ sizeOf (d .exception) (d .most) → x ≡ max (d .exception) (f .exception)
+    → y ≡ max (d .most) (f .most) → FindsTable h s f → s ≡ take (d .to - d .from) (drop (d .from) table) → b ≡ true → b ≡ endsAtLabel label h → Tells table label d h (eqb n k)
+tells-by-size {table} {label} {h} {s} {d} {f} i w u v F p c e =
+    record { is = λ home₀ H a. rw (w, i, u, v) (sym (by-size table home₀ label (H .label-is) h a (size home₀ H) (home-found table home₀ label d H) (sym e ∙ c))) }
+  where
+    size : (home₀ : Bytes) → Held table home₀ label d → Found table h (sizeOf (max (d .exception) (f .exception)) (max (d .most) (f .most)))
+    size home₀ H =
+        let r = span-read table home₀ label d H in
+        joined-size table home₀ label d H h (sym e ∙ c) (f .exception) (f .most) (sym (rw (p, r) at (F .is) (span-good table home₀ label d H)))
 
 pub ruleset joined-laws = (tells-not, tells-by-size, needs)
+
+-- the look alone: a search that fails then tries every way
+pub ruleset sized = (tells-by-size)

@@ -216,3 +216,7 @@ pub ruleset range-laws = (
 pub ruleset line-end-laws = (line-is-range, needs)
 
 pub ruleset content-laws = (content-starts, content-more, content-less, end-out, end-found, needs)
+
+pub ruleset content-first = (content-starts)
+
+pub ruleset content-turn = (content-more)

@@ -1,5 +1,5 @@
 -- `deeper_rules::any_finding` meets its contract.
-use Rattle.deeper_rules.proofs.FindingLaws.{any-laws}
+use Rattle.deeper_rules.proofs.FindingLaws.{any-laws, star-alone}
 use Rattle.deeper_rules.proofs.any_finding.Statement.{statement}
 use Rattle.deeper_rules.proofs.any_finding.Tie as tie
 
@@ -26,7 +26,7 @@ any-finding-spec =
     {- sizes-requires-3 -}
     (λ c κs. search any-laws)
     {- returns-3 -}
-    (λ c. search any-laws)
+    (λ c. search star-alone)
     {- slice-aggregate-begins-with-2 -}
     (λ c. search any-laws)
     {- begins-with-requires-2 -}

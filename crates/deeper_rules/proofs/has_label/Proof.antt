@@ -1,5 +1,5 @@
 -- `deeper_rules::has_label` meets its contract.
-use Rattle.deeper_rules.proofs.JoinedSizes.{joined-laws}
+use Rattle.deeper_rules.proofs.JoinedSizes.{joined-laws, sized}
 use Rattle.deeper_rules.proofs.has_label.Statement.{statement}
 use Rattle.deeper_rules.proofs.has_label.Tie as tie
 
@@ -22,6 +22,6 @@ has-label-spec =
     {- suffix-size-requires-2 -}
     (λ c κs. search joined-laws)
     {- returns -}
-    (λ c. search joined-laws)
+    (λ c. search sized)
     {- returns-2 -}
     (λ c. search joined-laws))

@@ -2,7 +2,7 @@
 use Rattle.deeper_rules.proofs.FindingLaws.{Looking}
 use Prim.Native.Nat.{_-_}
 use lib.ListN.{length}
-use Rattle.deeper_rules.proofs.FindingLaws.{lines-laws}
+use Rattle.deeper_rules.proofs.FindingLaws.{lines-laws, looked, looks-on}
 use Rattle.deeper_rules.proofs.lines_finding.Statement.{statement}
 use Rattle.deeper_rules.proofs.lines_finding.Tie as tie
 
@@ -39,10 +39,10 @@ lines-finding-spec =
     {- sizes-requires -}
     (λ c κs. search lines-laws)
     {- returns -}
-    (λ c. search lines-laws)
+    (λ c. search looked)
     {- add-at -}
     (λ c. search lines-laws)
     {- loop-less -}
     (λ c. search lines-laws)
     {- loop-again -}
-    (λ c. search lines-laws))
+    (λ c. search looks-on))

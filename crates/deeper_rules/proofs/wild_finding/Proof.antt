@@ -1,5 +1,5 @@
 -- `deeper_rules::wild_finding` meets its contract.
-use Rattle.deeper_rules.proofs.FindingLaws.{wild-laws}
+use Rattle.deeper_rules.proofs.FindingLaws.{wild-laws, wild-match}
 use Rattle.deeper_rules.proofs.wild_finding.Statement.{statement}
 use Rattle.deeper_rules.proofs.wild_finding.Tie as tie
 
@@ -20,7 +20,7 @@ wild-finding-spec =
     {- sizes-requires-2 -}
     (λ c κs. search wild-laws)
     {- returns-2 -}
-    (λ c. search wild-laws)
+    (λ c. search wild-match)
     {- sizes-requires-3 -}
     (λ c κs. search wild-laws)
     {- returns-3 -}

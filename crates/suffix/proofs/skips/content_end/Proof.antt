@@ -3,7 +3,7 @@ use Prim.Native.Nat.{_-_}
 use lib.ListN.{length}
 use Rattle.suffix.specs.code.Pass.{inContent}
 use Rattle.suffix.proofs.RangeLaws.{SameEnd}
-use Rattle.suffix.proofs.RangeLaws.{content-laws}
+use Rattle.suffix.proofs.RangeLaws.{content-first, content-laws, content-turn}
 use Rattle.suffix.proofs.skips.content_end.Statement.{statement}
 use Rattle.suffix.proofs.skips.content_end.Tie as tie
 
@@ -22,7 +22,7 @@ content-end-spec =
     {- first-in-requires -}
     (λ c κs. search content-laws)
     {- loop-holds -}
-    (λ c. search content-laws)
+    (λ c. search content-first)
     {- shared-slice-read-in-content -}
     (λ c. search content-laws)
     {- in-content-requires -}
@@ -34,7 +34,7 @@ content-end-spec =
     {- loop-less -}
     (λ c. search content-laws)
     {- loop-again -}
-    (λ c. search content-laws)
+    (λ c. search content-turn)
     {- returns -}
     (λ c. search content-laws)
     {- returns-2 -}
