@@ -186,11 +186,11 @@ module _ (h w : Bytes) where
   depth-comment e f = line-skip (labels h) w (comment-skipped w (sym e ∙ f))
 
   module _ {c : Bool} (n : length w ≡ 0 → ⊥) (e : c ≡ beginsWith (47 ∷ 47 ∷ []) w) (f : c ≡ false) where
-    R : readLine w ≡ oneRule (readRule w)
-    R = line-read w (other-read w n (sym e ∙ f))
+    pub rule-line : readLine w ≡ oneRule (readRule w)
+    rule-line = line-read w (other-read w n (sym e ∙ f))
 
     pub depth-star : {b : Bool} → b ≡ same w (42 ∷ []) → b ≡ true → 0 ≡ lineDepth (labels h) (readLine w)
-    depth-star i j = rw (R, same-eq w (42 ∷ []) (sym i ∙ j), rule-star) (none-deep ∙ depth-one (labels h) (normal ((42 ∷ []) ∷ [])))
+    depth-star i j = rw (rule-line, same-eq w (42 ∷ []) (sym i ∙ j), rule-star) (none-deep ∙ depth-one (labels h) (normal ((42 ∷ []) ∷ [])))
       where
         none-deep : 0 ≡ depthOf (labels h) (normal ((42 ∷ []) ∷ []))
         none-deep =
@@ -199,27 +199,27 @@ module _ (h w : Bytes) where
 
     module _ (g : Good w) where
       pub rule-good : isNone (oneRule (readRule w)) ≡ false
-      rule-good = rw R at (g .is)
+      rule-good = rw rule-line at (g .is)
 
       module _ {b : Bool} (i : b ≡ beginsWith (42 ∷ 46 ∷ []) w) (j : b ≡ true) where
-        wild-is : Reads (drop 2 w) (readRule w) (wild (drop 2 w))
-        wild-is = rw (← begins-is (42 ∷ 46 ∷ []) w (sym i ∙ j)) at (wild-reads (drop 2 w) (rw (← begins-is (42 ∷ 46 ∷ []) w (sym i ∙ j)) rule-good))
+        pub line-wild : Reads (drop 2 w) (readRule w) (wild (drop 2 w))
+        line-wild = rw (← begins-is (42 ∷ 46 ∷ []) w (sym i ∙ j)) at (wild-reads (drop 2 w) (rw (← begins-is (42 ∷ 46 ∷ []) w (sym i ∙ j)) rule-good))
 
         pub depth-wild-host : isHost (take (length w - 2) (drop 2 w)) ≡ true
-        depth-wild-host = rw (rest-whole w 2) (wild-is .host)
+        depth-wild-host = rw (rest-whole w 2) (line-wild .host)
 
         pub depth-wild : (d : ℕ) {q : ℕ} → q ≡ max d (depthOf (labels h) (normal ((42 ∷ []) ∷ labels (take (length w - 2) (drop 2 w))))) → q ≡ max d (lineDepth (labels h) (readLine w))
-        depth-wild d k = k ∙ ap (max d) (rw (rest-whole w 2, R, wild-is .is) (depth-one (labels h) (wild (drop 2 w))))
+        depth-wild d k = k ∙ ap (max d) (rw (rest-whole w 2, rule-line, line-wild .is) (depth-one (labels h) (wild (drop 2 w))))
 
       module _ {b : Bool} (i : b ≡ beginsWith (33 ∷ []) w) (j : b ≡ true) where
-        exception-is : Reads (drop 1 w) (readRule w) (exceptional (labels (drop 1 w)))
-        exception-is = rw (← begins-is (33 ∷ []) w (sym i ∙ j)) at (exception-reads (drop 1 w) (rw (← begins-is (33 ∷ []) w (sym i ∙ j)) rule-good))
+        pub line-exception : Reads (drop 1 w) (readRule w) (exceptional (labels (drop 1 w)))
+        line-exception = rw (← begins-is (33 ∷ []) w (sym i ∙ j)) at (exception-reads (drop 1 w) (rw (← begins-is (33 ∷ []) w (sym i ∙ j)) rule-good))
 
         pub depth-exception-host : isHost (take (length w - 1) (drop 1 w)) ≡ true
-        depth-exception-host = rw (rest-whole w 1) (exception-is .host)
+        depth-exception-host = rw (rest-whole w 1) (line-exception .host)
 
         pub depth-exception : (d : ℕ) {q : ℕ} → q ≡ max d (depthOf (labels h) (normal (labels (take (length w - 1) (drop 1 w))))) → q ≡ max d (lineDepth (labels h) (readLine w))
-        depth-exception d k = k ∙ ap (max d) (rw (rest-whole w 1, R, exception-is .is) (same-depth (labels h) (labels (drop 1 w)) ∙ depth-one (labels h) (exceptional (labels (drop 1 w)))))
+        depth-exception d k = k ∙ ap (max d) (rw (rest-whole w 1, rule-line, line-exception .is) (same-depth (labels h) (labels (drop 1 w)) ∙ depth-one (labels h) (exceptional (labels (drop 1 w)))))
 
       module _ {x y z : Bool} (a : x ≡ same w (42 ∷ [])) (a′ : x ≡ false) (b : y ≡ beginsWith (42 ∷ 46 ∷ []) w) (b′ : y ≡ false) (d : z ≡ beginsWith (33 ∷ []) w) (d′ : z ≡ false) where
         pub depth-host-host : isHost w ≡ true
@@ -230,7 +230,7 @@ module _ (h w : Bytes) where
             go false k = told-none (readRule w) rule-good (unfold readRule in (rw (k, sym a ∙ a′, sym b ∙ b′, sym d ∙ d′)))
 
         pub depth-host : (d : ℕ) {q : ℕ} → q ≡ max d (depthOf (labels h) (normal (labels w))) → q ≡ max d (lineDepth (labels h) (readLine w))
-        depth-host d k = k ∙ ap (max d) (rw (R, rule-host w depth-host-host) (depth-one (labels h) (normal (labels w))))
+        depth-host d k = k ∙ ap (max d) (rw (rule-line, rule-host w depth-host-host) (depth-one (labels h) (normal (labels w))))
 
 -- ---- the pass
 

@@ -1,9 +1,9 @@
 -- The search for lines that go deeper than a label, and the span of these. Assumes nothing.
 use mathlib.Core.Path.{_≡_, refl, sym, ap, _∙_}
-use mathlib.Core.Bool.{Bool, true, false}
+use mathlib.Core.Bool.{Bool, true, false, _||_}
 use mathlib.Core.List.{List, [], _∷_, _++_, append-nil}
 use mathlib.Core.Option.{Option, none, some}
-use Prim.Native.Nat.{ℕ, suc, _+_, _-_, _≤_, _<_, max}
+use Prim.Native.Nat.{ℕ, suc, _+_, _-_, _≤_, _<_}
 use native.Mathlib.Omega.{arith}
 use native.Mathlib.Numerals.{add-one}
 use mir.Val.{Fits}
@@ -12,23 +12,23 @@ use lib.ListN.{length, getD, take, drop, take-append-drop, drop-of-length-le, le
 use lib.Seq.{drop-cons, drop-drop, take-all}
 use lib.Dec.{ltb}
 use borrow.Author.Needs.{needs}
-use borrow.Author.Tests.{lt-leb, lt-ltb, ltb-true, ltb-false}
-use Rattle.ascii.specs.Ascii.{Bytes, _>>=_, isNone, any, takeWhile, splitAt}
+use borrow.Author.Tests.{lt-leb, le-ltb, ltb-true, ltb-false, leb-false}
+use Rattle.ascii.specs.Ascii.{Bytes, _>>=_, isNone, any, takeWhile, lastOf, splitAt, same, beginsWith}
 use Rattle.ascii.proofs.Scan.{scan-part, scan-from, scan-to}
 use Rattle.suffix.specs.Host.{labels}
-use Rattle.suffix.specs.Suffix.{Rule, content, isSkipped, readLines, readTable}
-use Rattle.suffix.specs.code.Pass.{readLine, inLine, inContent}
+use Rattle.suffix.specs.Suffix.{Rule, normal, exceptional, content, isSkipped, readRule, readLines, readTable}
+use Rattle.suffix.specs.code.Pass.{oneRule, readLine, inLine, inContent}
 use Rattle.suffix.specs.code.Deeper.{goesDeeper, deeperIn}
-use Rattle.suffix.specs.code.Depth.{deepest, lineDepth, Good, Past}
+use Rattle.suffix.specs.code.Depth.{deepest, lineDepth, Good}
 use Rattle.suffix.specs.code.Idle.{KindsOf, Passes, Shallow}
 use Rattle.suffix.specs.code.Span.{linesFrom, Passed, Spans}
 use Rattle.suffix.specs.code.Search.{Seeks, Sought}
-use Rattle.suffix.proofs.Ends.{both-ways, true-false, labels-some}
-use Rattle.suffix.proofs.Lines.{rest-whole}
+use Rattle.suffix.proofs.Ends.{true-false, same-eq, labels-some, wild}
+use Rattle.suffix.proofs.Lines.{rest-whole, rule-host, rule-star, empty-skipped, comment-skipped, wild-in, exception-in}
 use Rattle.suffix.proofs.Passes.{content-is, line-stops, lines-in, lines-out, lines-cut}
 use Rattle.suffix.proofs.Cuts.{split-both, read-both}
 use Rattle.suffix.proofs.PassedLines.{passed-on, passed-line, read-one}
-use Rattle.suffix.proofs.Climbs.{table-short, table-read, last-whole, any-depth}
+use Rattle.suffix.proofs.Climbs.{table-short, table-read, last-whole, any-depth, rule-line, line-wild, line-exception, depth-wild-host, depth-exception-host, depth-host-host}
 use Rattle.suffix.proofs.IdleLines.{stands-whole}
 use Rattle.suffix.proofs.SkipLaws.{part-start, part-end}
 
@@ -64,11 +64,70 @@ module _ (table : Bytes) (at : ℕ) {to : ℕ} (g : to ≡ at + length (takeWhil
   pub part-good : Good (takeWhile inContent (drop at table)) → Good (take (to - at) (drop at table))
   part-good G = rw (scan-part inContent table at to g) G
 
-  pub part-deeper : (hl : List Bytes) (d : ℕ) {q : ℕ} → q ≡ max d (lineDepth hl (readLine (take (to - at) (drop at table)))) → ltb d q ≡ ltb d (lineDepth hl (readLine (takeWhile inContent (drop at table))))
-  part-deeper hl d e = rw (e, scan-part inContent table at to g) (beyond d (lineDepth hl (readLine (takeWhile inContent (drop at table)))))
-    where
-      beyond : (d n : ℕ) → ltb d (max d n) ≡ ltb d n
-      beyond d n = both-ways (ltb d (max d n)) (ltb d n) (λ t. let x = ltb-true d (max d n) t in lt-ltb d n (omega arith)) (λ t. let x = ltb-true d n t in lt-ltb d (max d n) (omega arith))
+  pub part-deeper : (ls : List Bytes) {q : Bool} → q ≡ deeperIn ls (readLine (take (to - at) (drop at table))) → q ≡ deeperIn ls (readLine (takeWhile inContent (drop at table)))
+  part-deeper ls e = e ∙ rw (scan-part inContent table at to g)
+
+-- what is read of a good line
+one-deeper : (ls : List Bytes) (r : Rule) → goesDeeper ls r ≡ deeperIn ls (oneRule (some r))
+unfolding deeperIn oneRule any
+one-deeper ls r = go (goesDeeper ls r)
+  where
+    go : (u : Bool) → u ≡ (u || false)
+    go true = refl
+    go false = refl
+
+module _ (label w : Bytes) where
+  skipped-not : isSkipped w ≡ true → false ≡ deeperIn (labels label) (readLine w)
+  unfolding readLine deeperIn any
+  skipped-not e = rw e
+
+  pub deeper-empty : length w ≡ 0 → false ≡ deeperIn (labels label) (readLine w)
+  deeper-empty e = skipped-not (empty-skipped w e)
+
+  module _ {c : Bool} (e : c ≡ beginsWith (47 ∷ 47 ∷ []) w) where
+    pub deeper-comment : c ≡ true → false ≡ deeperIn (labels label) (readLine w)
+    deeper-comment f = skipped-not (comment-skipped w (sym e ∙ f))
+
+    module _ (f : c ≡ false) (n : length w ≡ 0 → ⊥) where
+      read : readLine w ≡ oneRule (readRule w)
+      read = rule-line label w n e f
+
+      pub deeper-star : {b : Bool} → b ≡ same w (42 ∷ []) → b ≡ true → false ≡ deeperIn (labels label) (readLine w)
+      deeper-star i j = rw (read, same-eq w (42 ∷ []) (sym i ∙ j), rule-star) (sym short ∙ one-deeper (labels label) (normal ((42 ∷ []) ∷ [])))
+        where
+          short : goesDeeper (labels label) (normal ((42 ∷ []) ∷ [])) ≡ false
+          short = unfold goesDeeper in (rw (le-ltb (length (labels label)) 1 (labels-some label)))
+
+      module _ (g : Good w) where
+        pub deeper-wild : {b q : Bool} → b ≡ beginsWith (42 ∷ 46 ∷ []) w → b ≡ true → q ≡ goesDeeper (labels label) (normal ((42 ∷ []) ∷ labels (take (length w - 2) (drop 2 w))))
+            → q ≡ deeperIn (labels label) (readLine w)
+        deeper-wild i j k = k ∙ rw (rest-whole w 2, read, line-wild label w n e f g i j .is) (one-deeper (labels label) (wild (drop 2 w)))
+
+        pub deeper-exception : {b q : Bool} → b ≡ beginsWith (33 ∷ []) w → b ≡ true → q ≡ goesDeeper (labels label) (normal (labels (take (length w - 1) (drop 1 w))))
+            → q ≡ deeperIn (labels label) (readLine w)
+        deeper-exception i j k = k ∙ rw (rest-whole w 1, read, line-exception label w n e f g i j .is) (alike (labels (drop 1 w)) ∙ one-deeper (labels label) (exceptional (labels (drop 1 w))))
+          where
+            alike : (ns : List Bytes) → goesDeeper (labels label) (normal ns) ≡ goesDeeper (labels label) (exceptional ns)
+            alike ns = unfold goesDeeper in refl
+
+        pub deeper-host : {x y z q : Bool} → x ≡ same w (42 ∷ []) → x ≡ false → y ≡ beginsWith (42 ∷ 46 ∷ []) w → y ≡ false → z ≡ beginsWith (33 ∷ []) w → z ≡ false
+            → q ≡ goesDeeper (labels label) (normal (labels w)) → q ≡ deeperIn (labels label) (readLine w)
+        deeper-host a a′ b b′ d d′ k = k ∙ rw (read, rule-host w (depth-host-host label w n e f g a a′ b b′ d d′)) (one-deeper (labels label) (normal (labels w)))
+
+pub ruleset rule-laws = (
+  deeper-empty,
+  deeper-comment,
+  deeper-star,
+  deeper-wild,
+  deeper-exception,
+  deeper-host,
+  wild-in,
+  exception-in,
+  depth-wild-host,
+  depth-exception-host,
+  depth-host-host,
+  needs,
+)
 
 pub ruleset line-laws = (part-start, part-end, part-good, part-deeper, needs)
 
@@ -89,10 +148,14 @@ pub seeking-starts : {kinds label table : Bytes} {m n from at : ℕ} → Seeks k
 seeking-starts S I = record { lent = S; sought = record { onward = I .onward; inside = I .inside; passed = I .passed } }
 
 module _ {kinds label table : Bytes} {n from at : ℕ} (R : Seeking kinds label table n from at) where
-  pub seeking-past : Past label label (n - 1)
-  seeking-past =
-      let z : suc (n - 1) ≡ length (labels label) = omega (arith, R .lent .some, R .lent .labels-are) in
-      record { is = rw z (sym (last-whole (labels label))) }
+  -- a line without a deeper rule goes deeper than fewer labels
+  shallow-line : (o : Option (List Rule)) → deeperIn (labels label) o ≡ false → lineDepth (labels label) o ≤ n - 1
+  unfolding deeperIn lineDepth
+  shallow-line none e = true-false e
+  shallow-line (some rules) e =
+      let z : lastOf n (labels label) ≡ labels label = rw (R .lent .labels-are) (last-whole (labels label)) in
+      let a = any-depth n (labels label) rules (R .lent .some) (omega (arith, R .lent .labels-are)) in
+      omega (arith, leb-false n (deepest (labels label) rules) (sym a ∙ ap (λ (ls : List Bytes). any (goesDeeper ls) rules) z ∙ e))
 
   pub seeking-ends : Sought label table (n - 1) from at
   seeking-ends = R .sought
@@ -120,9 +183,9 @@ module _ {kinds label table : Bytes} {n from at : ℕ} (R : Seeking kinds label 
       pub seeking-less : length table - next < length table - at
       seeking-less = omega (arith, i, l, I .onward)
 
-      pub seeking-more : {b : Bool} → b ≡ ltb (n - 1) (lineDepth (labels label) (readLine (takeWhile inContent (drop at table)))) → b ≡ false → Seeking kinds label table n from next
+      pub seeking-more : {b : Bool} → b ≡ deeperIn (labels label) (readLine (takeWhile inContent (drop at table))) → b ≡ false → Seeking kinds label table n from next
       seeking-more e f =
-          let d = ltb-false (n - 1) (lineDepth (labels label) (readLine (takeWhile inContent (drop at table)))) (sym e ∙ f) in
+          let d = shallow-line (readLine (takeWhile inContent (drop at table))) (sym e ∙ f) in
           record {
             lent = R .lent;
             sought = record {
@@ -132,7 +195,7 @@ module _ {kinds label table : Bytes} {n from at : ℕ} (R : Seeking kinds label 
             };
           }
 
-pub ruleset seek-laws = (seeks-lends, seeking-starts, seeking-past, seeking-ends, seeking-good, seeking-fits, seeking-lends, seeking-less, seeking-more, needs)
+pub ruleset seek-laws = (seeks-lends, seeking-starts, seeking-ends, seeking-good, seeking-fits, seeking-lends, seeking-less, seeking-more, needs)
 
 -- ---- the span
 

@@ -1,18 +1,19 @@
 // The span of the table's lines that has every rule deeper than a label.
 use crate::hosts;
-use crate::line_depth;
+use crate::name_deeper;
 use crate::short_content_end;
 use crate::skips;
+use crate::wild_goes_deeper;
 ghost use mathlib.Core.Path.{_≡_};
 ghost use mathlib.Core.Bool.{false};
 ghost use Prim.Native.Nat.{_-_, _<_};
 ghost use lib.ListN.{length, drop};
-ghost use lib.Dec.{ltb};
 ghost use Rattle.ascii.specs.Ascii.{isNone, takeWhile};
 ghost use Rattle.suffix.specs.Host.{labels};
 ghost use Rattle.suffix.specs.Suffix.{readTable};
 ghost use Rattle.suffix.specs.code.Pass.{readLine, inContent};
-ghost use Rattle.suffix.specs.code.Depth.{lineDepth, Good, Past};
+ghost use Rattle.suffix.specs.code.Deeper.{deeperIn};
+ghost use Rattle.suffix.specs.code.Depth.{Good};
 ghost use Rattle.suffix.specs.code.Span.{Spans};
 ghost use Rattle.suffix.specs.code.Search.{Seeks, Sought};
 
@@ -22,13 +23,36 @@ pub struct Span {
     pub to: usize,
 }
 
-// The good line at a place has a rule that goes deeper than the whole label; the depth is one less than its labels.
-fn line_is_deeper(label: &[u8], depth: usize, table: &[u8], at: usize) -> bool
-    requires { ⌜ Past (now label) (now label) depth × Good (takeWhile inContent (drop at (now table))) × (at < length (now table)) ⌝ }
-    ensures { λ r. ⌜ r ≡ ltb depth (lineDepth (labels (now (label .entry))) (readLine (takeWhile inContent (drop at (now (table .entry)))))) ⌝ }
+// What is read of a good line has a rule that goes deeper than the label.
+fn rule_is_deeper(label: &[u8], w: &[u8]) -> bool
+    requires { ⌜ Good (now w) ⌝ }
+    ensures { λ r. ⌜ r ≡ deeperIn (labels (now (label .entry))) (readLine (now (w .entry))) ⌝ }
+{
+    if w.len() == 0 {
+        return false;
+    }
+    if ascii::begins_with(w, b"//") {
+        return false;
+    }
+    if ascii::equal(w, b"*") {
+        return false;
+    }
+    if ascii::begins_with(w, b"*.") {
+        return wild_goes_deeper(label, &w[2..]);
+    }
+    if ascii::begins_with(w, b"!") {
+        return name_deeper(label, &w[1..]);
+    }
+    name_deeper(label, w)
+}
+
+// The good line at a place has one.
+fn line_is_deeper(label: &[u8], table: &[u8], at: usize) -> bool
+    requires { ⌜ Good (takeWhile inContent (drop at (now table))) × (at < length (now table)) ⌝ }
+    ensures { λ r. ⌜ r ≡ deeperIn (labels (now (label .entry))) (readLine (takeWhile inContent (drop at (now (table .entry))))) ⌝ }
 {
     let to = short_content_end(table, at);
-    depth < line_depth(label, label, depth, &table[at..to])
+    rule_is_deeper(label, &table[at..to])
 }
 
 // The first line from a place on that has a rule deeper than the label, whose labels are `count`; the table's end or behind it where
@@ -40,7 +64,7 @@ fn next_deeper(kinds: &[u8; 256], label: &[u8], count: usize, table: &[u8], from
     let depth = count - 1;
     let mut at = skips::idle_lines(kinds, label, count, depth, 0, table, from);
     while at < table.len() {
-        if line_is_deeper(label, depth, table, at) {
+        if line_is_deeper(label, table, at) {
             return at;
         }
         let next = skips::short_end(table, at) + 1;

@@ -9,13 +9,13 @@ line-is-deeper-spec =
     (tie.spec
     {- short-content-end-requires -}
     (λ c κs. search line-laws)
-    {- sub-line-depth -}
+    {- sub-rule-is-deeper -}
     (λ c. search line-laws)
-    {- part-line-depth-start -}
+    {- part-rule-is-deeper-start -}
     (λ c. search line-laws)
-    {- part-line-depth-end -}
+    {- part-rule-is-deeper-end -}
     (λ c. search line-laws)
-    {- line-depth-requires -}
+    {- rule-is-deeper-requires -}
     (λ c κs. search line-laws)
     {- returns -}
     (λ c. search line-laws))
