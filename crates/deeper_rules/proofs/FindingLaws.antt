@@ -1,5 +1,5 @@
 -- Rules, lines and the lines of a span: what they find for a host. Assumes nothing.
-use mathlib.Core.Path.{_≡_, refl, sym, _∙_}
+use mathlib.Core.Path.{_≡_, refl, sym, ap, _∙_}
 use mathlib.Core.Bool.{Bool, true, false}
 use mathlib.Core.List.{List, [], _∷_}
 use mathlib.Core.Option.{Option, none, some}
@@ -14,13 +14,14 @@ use Rattle.ascii.proofs.Scan.{scan-to}
 use Rattle.suffix.specs.Host.{labels}
 use Rattle.suffix.specs.Suffix.{Rule, readRule, readTable}
 use Rattle.suffix.specs.code.Place.{endsAtLabel}
-use Rattle.suffix.specs.code.Pass.{sizes, bestOf, oneRule, readLine, inLine, inContent}
+use Rattle.suffix.specs.code.Pass.{bestOf, oneRule, readLine, inLine, inContent}
 use Rattle.suffix.specs.code.Depth.{depthsOf, Good}
 use Rattle.suffix.specs.declared.Best.the-variants.{Bad}
 use Rattle.suffix.specs.declared.Depths.{Depths}
 use Rattle.suffix.specs.declared.Depths.the-variants.{Wrong, Found}
 use Rattle.suffix.proofs.Ends.{true-false}
 use Rattle.suffix.proofs.Lines.{wild-in, exception-in, wild-fits, host-yes, host-no, wild-no, wild-yes, wild-less, exception-yes, exception-no, rule-is-star, rule-is-wild, rule-is-exception, rule-wild-long, rule-exception-one, begins-is, rest-whole, line-empty, line-comment, line-rule}
+use Rattle.suffix.proofs.Answers.{bad-table}
 use Rattle.suffix.proofs.Passes.{Pass, pass-starts, pass-ends, pass-bad, pass-more}
 use Rattle.suffix.proofs.Climbs.{table-short, to-best, told-none, wild-reads, exception-reads, rule-good, depth-host-host}
 use Rattle.deeper_rules.specs.code.Findings.{found, best, FindsHost, FindsRule, FindsLine, FindsTable}
@@ -91,9 +92,9 @@ module _ (h w : Bytes) {r : Finding} where
       host-line a a′ b b′ d d′ F = record { is = λ g. line-rule h w e n f (F .is (depth-host-host h w n e f g a a′ b b′ d d′)) }
 
 -- no mark begins a line whose first byte comes behind them
-pub unmarked-line : (h w : Bytes) {r : Finding} → 0 < length w → 47 < getD w 0 0 → FindsHost h w r → FindsLine h w r
-unmarked-line h [] l m F = absurd (omega arith)
-unmarked-line h (b ∷ w) l m F =
+pub unmarked-line : (h w : Bytes) {n : ℕ} {r : Finding} → 0 < length w → n < getD w 0 0 → 47 ≤ n → FindsHost h w r → FindsLine h w r
+unmarked-line h [] l m k F = absurd (omega arith)
+unmarked-line h (b ∷ w) l m k F =
     host-line h (b ∷ w) (sym slash) refl (λ z. omega arith) (sym star) refl (sym wild) refl (sym mark) refl F
   where
     slash : beginsWith (47 ∷ 47 ∷ []) (b ∷ w) ≡ false
@@ -117,11 +118,6 @@ pub record Looking (host s : Bytes) (e m at : ℕ) : Type 0 where
 pub looking-starts : (host s : Bytes) → Looking host s 0 0 0
 looking-starts host s = record { inside = omega arith; is = λ g. pass-starts host s (table-short s g) }
 
-not-bad : {A : Type 0} (hl : List Bytes) (o : Option (List Rule)) → isNone o ≡ false → Bad ≡ bestOf hl o → A
-unfolding bestOf sizes
-not-bad hl none g e = true-false g
-not-bad hl (some rs) g e = let z : _≡_ {A = ℕ} 0 1 = cc in absurd (omega arith)
-
 module _ {host s : Bytes} {e m at to : ℕ} (L : Looking host s e m at) (g : to ≡ at + length (takeWhile inContent (drop at s))) where
   pub line-from : at ≤ to
   line-from = omega (arith, g)
@@ -133,7 +129,7 @@ module _ {host s : Bytes} {e m at to : ℕ} (L : Looking host s e m at) (g : to 
   good-line a = record { is = go (readLine (take (to - at) (drop at s))) refl }
     where
       go : (o : Option (List Rule)) → readLine (take (to - at) (drop at s)) ≡ o → isNone o ≡ false
-      go none t = not-bad (labels host) (readTable s) a (pass-bad (L .is a) g {q = bestOf (labels host) (readLine (take (to - at) (drop at s)))} refl (rw t bad))
+      go none t = true-false (sym (ap isNone (bad-table s host (pass-bad (L .is a) g {q = bestOf (labels host) (readLine (take (to - at) (drop at s)))} refl (rw t bad)))) ∙ a)
         where
           bad : bestOf (labels host) none ≡ Bad
           bad = unfold bestOf in refl

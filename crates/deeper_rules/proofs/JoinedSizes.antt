@@ -23,7 +23,7 @@ use Rattle.suffix.specs.declared.Deeper.{Deeper}
 use Rattle.suffix.proofs.Ends.{Alike, true-false}
 use Rattle.suffix.proofs.Answers.{Found, found, size-exception}
 use Rattle.suffix.proofs.Passes.{join-bad}
-use Rattle.suffix.proofs.Climbs.{table-short, table-read}
+use Rattle.suffix.proofs.Climbs.{found-good, table-short, table-read}
 use Rattle.suffix.proofs.Cuts.{best-both}
 use Rattle.suffix.proofs.Speed.{rule-same, rules-same, Within, within, home, label-size, by-size}
 use Rattle.suffix.proofs.Owned.{has-no-end}
@@ -127,12 +127,6 @@ module _ (ls g h : List Bytes) (lg : length ls ≤ length g) (eg : Alike (lastOf
 
 -- ---- the law
 
--- a table that finds something is good
-found-good : (hl : List Bytes) (o : Option (List Rule)) (e m : ℕ) → bestOf hl o ≡ Sizes e m → isNone o ≡ false
-unfolding bestOf
-found-good hl none e m f = let z : _≡_ {A = ℕ} 0 1 = cc in absurd (omega arith)
-found-good hl (some rs) e m f = refl
-
 -- what is held of one host
 module _ (table home₀ label : Bytes) (d : Deeper) (H : Held table home₀ label d) where
   S : Spans table label (d .from) (d .to)
@@ -142,7 +136,7 @@ module _ (table home₀ label : Bytes) (d : Deeper) (H : Held table home₀ labe
   span = splitAt 10 (take (d .to - d .from) (drop (d .from) table))
 
   short : length table ≤ 1048576
-  short = table-short table (found-good (labels home₀) (readTable table) (d .exception) (d .most) (H .found))
+  short = table-short table (found-good (labels home₀) (readTable table) (sym (H .found)))
 
   -- the span is read as a table is
   span-read : readTable (take (d .to - d .from) (drop (d .from) table)) ≡ readLines span

@@ -267,12 +267,14 @@ lines-none : (hl : List Bytes) → linesDepth hl [] ≡ 0
 unfolding linesDepth
 lines-none hl = refl
 
+-- lines that find something are good
+pub found-good : (hl : List Bytes) (o : Option (List Rule)) {e m : ℕ} → Sizes e m ≡ bestOf hl o → isNone o ≡ false
+unfolding bestOf
+found-good hl none z = let w : _≡_ {A = ℕ} 0 1 = cc in absurd (omega arith)
+found-good hl (some rs) z = refl
+
 pub line-good : (hl : List Bytes) (x : Bytes) {q : Best} {e m : ℕ} → q ≡ bestOf hl (readLine x) → q ≡ Sizes e m → Good x
-line-good hl x {e} {m} p t = record { is = go (readLine x) (sym t ∙ p) }
-  where
-    go : (o : Option (List Rule)) → Sizes e m ≡ bestOf hl o → isNone o ≡ false
-    go none z = unfold bestOf in (let w : _≡_ {A = ℕ} 0 1 = cc in absurd (omega arith))
-    go (some rs) z = refl
+line-good hl x p t = record { is = found-good hl (readLine x) (sym t ∙ p) }
 
 pub record Deeps (host table : Bytes) (e m d at : ℕ) : Type 0 where
   pub pass : Pass host table (bestOf (labels host) (readTable table)) e m at

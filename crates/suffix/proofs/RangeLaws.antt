@@ -1,5 +1,5 @@
 -- The first byte of a range, by blocks of 64; the ends of lines. Assumes nothing.
-use mathlib.Core.Path.{_≡_, refl, sym, _∙_}
+use mathlib.Core.Path.{_≡_, refl, sym, ap, _∙_}
 use mathlib.Core.Bool.{Bool, true, false}
 use mathlib.Core.List.{[], _∷_}
 use Prim.Native.Nat.{ℕ, zero, suc, _+_, _-_, _≤_, _<_, min}
@@ -170,30 +170,31 @@ outside-lf b = go (eqb b 10) refl
         apart true u n = unfold outside in (rw u (line-other b n))
         apart false u n = let z = ltb-false b 10 u in unfold outside in (rw (u, lt-ltb 10 b (omega (arith, n))) (line-other b n))
 
-pub line-is-range : (s : Bytes) (from : ℕ) {r : ℕ} → r ≡ from + length (takeWhile (outside 10 10) (drop from s)) → r ≡ from + length (takeWhile inLine (drop from s))
-line-is-range s from e = e ∙ rw (while-same (outside 10 10) inLine outside-lf (drop from s))
+pub line-is-range : (s : Bytes) (from lo hi : ℕ) {r : ℕ} → r ≡ from + length (takeWhile (outside lo hi) (drop from s)) → lo ≡ 10 → hi ≡ 10 → r ≡ from + length (takeWhile inLine (drop from s))
+line-is-range s from lo hi e l h = e ∙ rw (l, h) (ap (λ (x : Bytes). from + length x) (while-same (outside 10 10) inLine outside-lf (drop from s)))
 
 -- no blank, and no LF, is outside the range from the tab to the space
-outside-content : (b : ℕ) → outside 9 32 b ≡ true → inContent b ≡ true
-outside-content b e = go (ltb b 9) refl
+outside-content : (lo hi : ℕ) → lo ≤ 9 → 32 ≤ hi → (b : ℕ) → outside lo hi b ≡ true → inContent b ≡ true
+outside-content lo hi l k b e = go (ltb b lo) refl
   where
-    go : (u : Bool) → ltb b 9 ≡ u → inContent b ≡ true
-    go true u = let h = ltb-true b 9 u in sym (content-other b (λ z. omega arith) (λ z. omega arith) (λ z. omega arith) (λ z. omega arith))
-    go false u = sym (content-high b (ltb-true 32 b (unfold outside in (rw u at e))))
+    go : (u : Bool) → ltb b lo ≡ u → inContent b ≡ true
+    go true u = let h = ltb-true b lo u in sym (content-other b (λ z. omega arith) (λ z. omega arith) (λ z. omega arith) (λ z. omega arith))
+    go false u = let h = ltb-true hi b (unfold outside in (rw u at e)) in sym (content-high b (omega arith))
 
-module _ (s : Bytes) {from i j : ℕ} (g : j ≡ i + length (takeWhile (outside 9 32) (drop i s))) where
+module _ (lo hi : ℕ) (s : Bytes) {from i j : ℕ} (g : j ≡ i + length (takeWhile (outside lo hi) (drop i s))) (l : lo ≤ 9) (k : 32 ≤ hi) where
   content-next : SameEnd inContent s from i → SameEnd inContent s from j
-  content-next E = record { is = rw (scan-rest (outside 9 32) s i j g) (omega (arith, g, while-two (outside 9 32) inContent outside-content (drop i s), E .is)) }
+  content-next E = record { is = rw (scan-rest (outside lo hi) s i j g) (omega (arith, g, while-two (outside lo hi) inContent (outside-content lo hi l k) (drop i s), E .is)) }
 
-pub content-starts : (s : Bytes) {from j : ℕ} → j ≡ from + length (takeWhile (outside 9 32) (drop from s)) → SameEnd inContent s from j
-content-starts s {from} g = content-next s g (end-starts inContent s from)
+module _ (lo hi : ℕ) (s : Bytes) {from j : ℕ} where
+  pub content-starts : j ≡ from + length (takeWhile (outside lo hi) (drop from s)) → lo ≤ 9 → 32 ≤ hi → SameEnd inContent s from j
+  content-starts g l k = content-next lo hi s g l k (end-starts inContent s from)
 
-pub content-more : (s : Bytes) {from i j : ℕ} {r : Bool} → SameEnd inContent s from i → j ≡ i + 1 + length (takeWhile (outside 9 32) (drop (i + 1) s)) → i < length s → r ≡ inContent (getD s i 0) → r ≡ true
-    → SameEnd inContent s from j
-content-more s E g h t w = content-next s g (end-next E h t w)
+  pub content-more : {i : ℕ} {r : Bool} → SameEnd inContent s from i → j ≡ i + 1 + length (takeWhile (outside lo hi) (drop (i + 1) s)) → lo ≤ 9 → 32 ≤ hi → i < length s → r ≡ inContent (getD s i 0) → r ≡ true
+      → SameEnd inContent s from j
+  content-more E g l k h t w = content-next lo hi s g l k (end-next E h t w)
 
-pub content-less : (s : Bytes) {i j : ℕ} → j ≡ i + 1 + length (takeWhile (outside 9 32) (drop (i + 1) s)) → i < length s → length s - j < length s - i
-content-less s {i} {j} g h = omega (arith, g)
+pub content-less : (lo hi : ℕ) (s : Bytes) {i j : ℕ} → j ≡ i + 1 + length (takeWhile (outside lo hi) (drop (i + 1) s)) → i < length s → length s - j < length s - i
+content-less lo hi s {i} {j} g h = omega (arith, g)
 
 pub ruleset block-laws = (block-starts, block-ends, block-more, needs)
 
@@ -217,6 +218,6 @@ pub ruleset line-end-laws = (line-is-range, needs)
 
 pub ruleset content-laws = (content-starts, content-more, content-less, end-out, end-found, needs)
 
-pub ruleset content-first = (content-starts)
+pub ruleset content-first = (content-starts, needs)
 
-pub ruleset content-turn = (content-more)
+pub ruleset content-turn = (content-more, needs)
