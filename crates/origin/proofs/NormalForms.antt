@@ -1,20 +1,21 @@
 -- Normal forms: read again, no longer, matched alike, plain ASCII. Assumes nothing.
 use mathlib.Core.Path.{_≡_, refl, sym, ap, _∙_}
 use mathlib.Core.List.{[], _∷_, _++_, append-nil}
-use mathlib.Core.Bool.{Bool, true, false, _||_, and-eq-true-iff}
+use mathlib.Core.Bool.{Bool, true, false, _&&_, _||_, and-eq-true-iff}
 use mathlib.Core.Option.{Option, none, some}
 use Prim.Native.Nat.{ℕ, _+_, _≤_}
 use native.Mathlib.Omega.{arith}
 use lib.ListN.{length, length-append}
+use lib.Dec.{eqb}
 use borrow.Author.Tests.{le-leb}
 use Rattle.ascii.specs.Ascii.{Bytes, if_then_else_, isEmpty, all, takeWhile, dropWhile, isDigit, isUpper, isLetter, same, sameNoCase, lowerByte, lower, beginsWith, beginsWithNoCase, text, value, valueFrom}
 use Rattle.ascii.proofs.Compare.{length-lower}
 use Rattle.suffix.specs.Host.{isHost, isLabelByte}
 use Rattle.suffix.proofs.Case.{is-byte, is-label-byte, lower-lower, map-map-eq, all-lower, is-host}
 use Rattle.origin.specs.Origin.{Authority, beginsHttps, isPort, readPort, isHostByte, readHost, readHttps, webOrigin, isNative, isFacet, shownPort, normalWeb, normalOf, normalForm}
-use Rattle.origin.specs.Matching.{sameHost, facetMatches}
+use Rattle.origin.specs.Matching.{effectivePort, sameOrigin, facetMatches}
 use Rattle.origin.specs.code.Parts.{isHidden}
-use Rattle.origin.specs.code.Normals.{effectivePort, normalAuthority}
+use Rattle.origin.specs.code.Normals.{normalAuthority}
 use Rattle.origin.proofs.Origins.{origin-read, same-eq, port-digits, native-no-web, facet-short-enough}
 
 -- ---- the two kinds
@@ -118,12 +119,12 @@ origin-normal s a e =
     let r = origin-read s a e in
     ap webOrigin (web-normal s a e) ∙ web-reads a (r .good-host) (r .host-bytes) (r .good-port)
 
--- its host in lower case, and the same port
+-- its host in lower case, and the same port by value
 pub host-normal : (a : Authority) → normalAuthority a .host ≡ lower (a .host)
 unfolding normalAuthority
 host-normal a = refl
 
-pub port-normal : (a : Authority) → effectivePort (normalAuthority a) ≡ effectivePort a
+pub port-normal : (a : Authority) → effectivePort (normalAuthority a .port) ≡ effectivePort (a .port)
 unfolding effectivePort normalAuthority isHidden
 port-normal a = go (isEmpty (a .port)) refl (same (a .port) (text "443")) refl
   where
@@ -183,8 +184,9 @@ differ s t b p q = go (same s t) refl
     go false e = e
     go true e = let w : s ≡ t = same-eq s t e in let z : _≡_ {A = ℕ} 0 1 = cc in absurd (omega arith)
 
-match-web : (caller t : Bytes) (c b : Authority) → webOrigin caller ≡ some c → webOrigin t ≡ some b → facetMatches caller t ≡ sameNoCase (c .host) (b .host)
-unfolding facetMatches sameHost
+match-web : (caller t : Bytes) (c b : Authority) → webOrigin caller ≡ some c → webOrigin t ≡ some b
+    → facetMatches caller t ≡ (sameNoCase (c .host) (b .host) && eqb (effectivePort (c .port)) (effectivePort (b .port)))
+unfolding facetMatches sameOrigin
 match-web caller t c b p q = rw (p, q, facetMatches)
 
 match-own : (caller t : Bytes) → webOrigin caller ≡ none → facetMatches caller t ≡ same caller t
@@ -202,5 +204,5 @@ match-normal caller e = go (webOrigin e) refl (webOrigin caller) refl
         ∙ sym (match-own caller e q ∙ differ caller e a q p)
     go (some a) p (some c) q =
         match-web caller (normalForm e) c (normalAuthority a) q (origin-normal e a p)
-        ∙ ap (sameNoCase (c .host)) (host-normal a) ∙ same-lower (c .host) (a .host)
+        ∙ (rw (host-normal a, same-lower (c .host) (a .host), port-normal a))
         ∙ sym (match-web caller e c a q p)

@@ -1,16 +1,16 @@
 -- Where the parts of a web origin or an HTTPS URL stand. Assumes nothing.
 use mathlib.Core.Path.{_≡_, refl, sym, _∙_}
-use mathlib.Core.Bool.{Bool, true, false, _&&_, not, and-false}
-use mathlib.Core.List.{[]}
+use mathlib.Core.Bool.{Bool, true, false, _&&_, not, and-true, and-false}
+use mathlib.Core.List.{[], _∷_}
 use mathlib.Core.Option.{Option, none, some}
 use Prim.Native.Nat.{ℕ, _+_, _-_, _≤_, _<_}
 use native.Mathlib.Numerals.{add-one}
 use native.Mathlib.Omega.{arith}
 use lib.ListN.{length, getD, take, drop, drop-of-length-le}
 use lib.Seq.{drop-cons}
-use lib.Dec.{leb}
-use borrow.Author.Tests.{ne-eqb, lt-leb, le-leb, leb-true, leb-false}
-use Rattle.ascii.specs.Ascii.{Bytes, if_then_else_, _when_, isEmpty, all, takeWhile, isDigit, same, sameNoCase, beginsWith, beginsWithNoCase, text, value, valueFrom, number16}
+use lib.Dec.{eqb, leb}
+use borrow.Author.Tests.{eq-eqb, ne-eqb, lt-leb, le-leb, leb-true, leb-false}
+use Rattle.ascii.specs.Ascii.{Bytes, if_then_else_, _when_, isEmpty, all, takeWhile, isDigit, same, sameNoCase, beginsWith, beginsWithNoCase, text, value, number16}
 use Rattle.ascii.specs.code.Numbers.{numberOf}
 use Rattle.ascii.specs.declared.decimals.Number.{Number}
 use Rattle.ascii.specs.declared.decimals.Number.the-variants.{Value, Malformed as NoNumber}
@@ -19,7 +19,7 @@ use Rattle.ascii.proofs.Scan.{scan-rest, scan-part, scan-to}
 use Rattle.suffix.specs.Host.{isHost}
 use Rattle.suffix.proofs.Places.{rest-whole}
 use Rattle.origin.specs.Origin.{Authority, beginsHttps, isPort, readPort, isHostByte, readHost, readHttps, webOrigin, isNative, isFacet, isTail, httpsUrl}
-use Rattle.origin.specs.Matching.{sameHost, facetMatches}
+use Rattle.origin.specs.Matching.{sameHost, effectivePort, sameOrigin, facetMatches}
 use Rattle.origin.specs.code.Parts.{part, authorityIn, Inside, Within, nowhere, within, Reads, portOf, withoutPort, HostEnd, isEnd}
 use Rattle.origin.specs.declared.Parts.{Parts}
 use Rattle.origin.specs.declared.Reading.{Reading}
@@ -33,7 +33,7 @@ no-part s end = let z : end - (end + 1) ≡ 0 = omega arith in rw z
 
 module _ (s : Bytes) (end : ℕ) {q : Reading} (H : HostEnd s end) (e : q ≡ Found (withoutPort end)) where
   without : beginsWith (text ":") (drop end s) ≡ false → Reads s (readPort (part s 8 end) (drop end s)) q
-  unfolding readPort authorityIn value valueFrom
+  unfolding readPort authorityIn effectivePort
   without h = record {
     is = rw (e, h, no-part s end);
     places = rw e (within {p = withoutPort end} (record { low = H .low; middle = omega arith; high = H .high; colon = λ l. absurd (omega arith); port-is = rw (no-part s end) }));
@@ -60,6 +60,11 @@ port-told p n = go (beginsWith (text "0") p) refl (not (isEmpty p) && all isDigi
     go true e v f h = let z : _≡_ {A = ℕ} 0 1 = cc in absurd (omega arith)
     go false e true f h = record { yes = rw (e, f); number = cc }
     go false e false f h = let z : _≡_ {A = ℕ} 0 1 = cc in absurd (omega arith)
+
+port-filled : (p : Bytes) → isPort p ≡ true → effectivePort p ≡ value p
+unfolding isPort number16 effectivePort
+port-filled [] e = let z : _≡_ {A = ℕ} 0 1 = cc in absurd (omega arith)
+port-filled (b ∷ p) e = refl
 
 port-refused : (p : Bytes) → portOf p ≡ NoNumber → isPort p ≡ false
 unfolding portOf isPort number16 numberOf
@@ -100,7 +105,7 @@ module _ (s : Bytes) (end : ℕ) {q : Number} {tail : ℕ} (H : HostEnd s end) (
           middle = omega arith;
           high = digits-end s end h t;
           colon = λ l. c;
-          port-is = P .number;
+          port-is = P .number ∙ sym (port-filled (part s (end + 1) tail) (P .yes));
         });
       }
 
@@ -178,6 +183,9 @@ module _ {s : Bytes} {o : Option Authority} {q : Reading} {p : Parts} (R : Reads
   pub found-tail : p .tail ≤ length s
   found-tail = I .high
 
+  found-port : p .port ≡ effectivePort (part s (p .end + 1) (p .tail))
+  found-port = I .port-is
+
 -- ---- web origins
 
 module _ (s : Bytes) {q : Reading} (R : Reads s (readHttps s) q) where
@@ -239,7 +247,7 @@ module _ (s : Bytes) {q : Reading} (l : length s ≤ 512) (R : Reads s (webOrigi
   unfolding isFacet
   facet-native h f = f ∙ rw (← is-none R h, le-leb (length s) 512 l)
 
--- ---- hosts compared
+-- ---- hosts and ports compared
 
 module _ (s : Bytes) {q : Reading} (R : Reads s (webOrigin s) q) where
   pub host-no-caller : (o : Option Authority) → q ≡ Malformed → false ≡ sameHost (webOrigin s) o
@@ -261,12 +269,18 @@ module _ (s : Bytes) {q : Reading} (R : Reads s (webOrigin s) q) where
     host-both k f = f ∙ rw (← found Q k .is, ← found R h .is)
 
   module _ {p : Parts} {t : Bytes} {q′ : Reading} (h : q ≡ Found p) (Q : Reads t (webOrigin t) q′) where
-    match-is : facetMatches s t ≡ sameHost (webOrigin s) (webOrigin t)
-    unfolding facetMatches authorityIn
-    match-is = rw (← found R h .is)
-
     pub match-no-other : q′ ≡ Malformed → false ≡ facetMatches s t
-    match-no-other k = host-no-other h Q k ∙ sym match-is
+    unfolding facetMatches sameOrigin authorityIn
+    match-no-other k = rw (← is-none Q k, ← found R h .is)
 
-    pub match-both : {p′ : Parts} {r : Bool} → q′ ≡ Found p′ → r ≡ sameNoCase (take (p .end - 8) (drop 8 s)) (take (p′ .end - 8) (drop 8 t)) → r ≡ facetMatches s t
-    match-both k f = host-both h Q k f ∙ sym match-is
+    module _ {p′ : Parts} (k : q′ ≡ Found p′) where
+      match-is : facetMatches s t ≡ (sameNoCase (part s 8 (p .end)) (part t 8 (p′ .end)) && eqb (p .port) (p′ .port))
+      unfolding facetMatches sameOrigin authorityIn
+      match-is = rw (← found R h .is, ← found Q k .is, found-port R h, found-port Q k)
+
+      pub match-ports : (p .port ≡ p′ .port → ⊥) → false ≡ facetMatches s t
+      match-ports n = sym (match-is ∙ rw (ne-eqb (p .port) (p′ .port) n, and-false))
+
+      pub match-both : {r : Bool} → p .port ≡ p′ .port → r ≡ sameNoCase (take (p .end - 8) (drop 8 s)) (take (p′ .end - 8) (drop 8 t)) → r ≡ facetMatches s t
+      unfolding part
+      match-both e f = f ∙ sym (match-is ∙ rw (eq-eqb (p .port) (p′ .port) e, and-true))

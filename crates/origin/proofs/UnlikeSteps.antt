@@ -15,7 +15,7 @@ use Rattle.ascii.proofs.Compare.{same-eq}
 use Rattle.ascii.proofs.OptionLaws.{Holds, holds}
 use Rattle.suffix.specs.Host.{isHost, isLabelByte}
 use Rattle.origin.specs.Origin.{Authority, beginsHttps, isPort, readPort, isHostByte, readHost, readHttps, webOrigin}
-use Rattle.origin.specs.Matching.{sameHost, facetMatches}
+use Rattle.origin.specs.Matching.{sameOrigin, facetMatches}
 use Rattle.origin.specs.code.Unlike.{isStop, mayEnd, apart, unlike}
 
 -- ---- the tests of the code
@@ -289,8 +289,8 @@ module _ (s t : Bytes) (e : unlike (drop 8 s) (drop 8 t) ≡ true) where
 
       go : (o p : Option Authority) → webOrigin s ≡ o → webOrigin t ≡ p → facetMatches s t ≡ false
       go none p f g = unfold facetMatches in rw f native-unlike
-      go (some a) none f g = unfold facetMatches sameHost in rw (f, g)
-      go (some a) (some b) f g = unfold facetMatches sameHost in rw (f, g) (by-hosts a b f g)
+      go (some a) none f g = unfold facetMatches sameOrigin in rw (f, g)
+      go (some a) (some b) f g = unfold facetMatches sameOrigin in rw (f, g, by-hosts a b f g)
 
 pub match-unlike : (s t : Bytes) {r : Bool} → r ≡ unlike (drop 8 s) (drop 8 t) → r ≡ true → false ≡ facetMatches s t
 match-unlike s t e h = sym (unlike-none s t (sym e ∙ h))

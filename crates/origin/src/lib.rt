@@ -13,7 +13,7 @@ ghost use Rattle.origin.specs.code.Unlike.{isStop, mayEnd, apart, unlike
 ghost use Rattle.origin.specs.code.Parts.{part, isEnd, beginsTail, portOf, withoutPort, HostEnd, Reads};
 
 // Where the parts of a text that begins `https://` stand: the host from 8 to end, then the port, then what is
-// left from tail on. The port is its number, 0 where it is absent.
+// left from tail on. The port is its number, 443 where it is absent.
 pub struct Parts {
     pub end: usize,
     pub port: u16,
@@ -115,7 +115,7 @@ fn no_port(end: usize) -> Reading
 {
     Reading::Found(Parts {
         end,
-        port: 0,
+        port: 443,
         tail: end,
     })
 }
@@ -393,7 +393,7 @@ fn are_unlike(x: &[u8], y: &[u8]) -> bool
     are_apart(x, y, i)
 }
 
-// A native caller equals the entry in bytes, a web caller by host.
+// A native caller equals the entry in bytes, a web caller by host and port.
 pub fn matches(caller: &[u8], entry: &[u8]) -> bool
     ensures { λ r. ⌜ r ≡ facetMatches (now (caller .entry)) (now (entry .entry)) ⌝ }
 {
@@ -406,7 +406,10 @@ pub fn matches(caller: &[u8], entry: &[u8]) -> bool
     let Reading::Found(q) = web_origin(entry) else {
         return false;
     };
-    let a = p.end;
-    let b = q.end;
-    ascii::equal_no_case(&caller[8..a], &entry[8..b])
+    let end = p.end;
+    let other = q.end;
+    if p.port != q.port {
+        return false;
+    }
+    ascii::equal_no_case(&caller[8..end], &entry[8..other])
 }

@@ -68,7 +68,18 @@ fn pair(caller: &[u8], entry: &[u8]) {
 }
 
 pub fn callers() {
-    pair(b"https://a.b", b"HTTPS://A.B:99/");
+    pair(b"https://a.b", b"HTTPS://A.B/");
+    pair(b"https://a.b", b"https://a.b:443/");
+    pair(b"https://a.b:443", b"https://a.b");
+    pair(b"https://a.b:443", b"https://a.b:443");
+    pair(b"https://a.b:99/", b"HTTPS://A.B:99");
+    pair(b"https://a.b", b"https://a.b:99");
+    pair(b"https://a.b:99", b"https://a.b");
+    pair(b"https://a.b:99", b"https://a.b:98");
+    pair(b"https://a.b:99", b"https://a.b:999");
+    pair(b"https://a.b:699", b"https://a.b:443");
+    pair(b"https://a.b:65535", b"https://a.b:65535");
+    pair(b"https://a.b:99", b"https://a.c:99");
     pair(b"https://a.b", b"https://a.c");
     pair(b"https://b", b"https://a.b");
     pair(b"https://a.b", b"https://a.b/p");

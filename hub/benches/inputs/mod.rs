@@ -118,6 +118,9 @@ pub fn worst() -> Vec<Body> {
         full("escaped", "web origins, every byte written as `\\u00xx`", |count| {
             (0..count).map(|n| escaped(&format!("https://w{n:04}.{OWNER}"))).collect()
         }),
+        full("ports", "the caller's host by other ports", |count| {
+            (0..count).map(|n| format!("https://none.{OWNER}:{}", 10_000 + n)).collect()
+        }),
         full("native", "the shortest native identities", same("ios:bundle-id:a")),
         full("empty", "empty strings", same("")),
         full("two-byte", "entries of 256 characters of two bytes", same(&"\u{fc}".repeat(256))),

@@ -121,7 +121,9 @@ impl<'a> Reference<'a> {
         let caller = facet(caller).ok()?;
         let kept = self.entries.iter().filter_map(|entry| self.judge(entry).ok());
         let matches = |entry: &Facet| match (entry, &caller) {
-            (Facet::Web(host, _), Facet::Web(caller, _)) => host == caller,
+            (Facet::Web(host, port), Facet::Web(caller, own)) => {
+                host == caller && port.unwrap_or(443) == own.unwrap_or(443)
+            }
             (entry, caller) => entry == caller,
         };
         kept.enumerate().find(|(_, entry)| matches(entry)).map(|(place, _)| place)

@@ -29,6 +29,8 @@ matches-spec =
     (λ c. search laws)
     {- returns-3 -}
     (λ c. search laws)
+    {- returns-4 -}
+    (λ c. search laws)
     {- sub-equal-no-case -}
     (λ c. search laws)
     {- part-equal-no-case-start -}
@@ -43,5 +45,5 @@ matches-spec =
     (λ c. search laws)
     {- equal-no-case-requires -}
     (λ c κs. search laws)
-    {- returns-4 -}
+    {- returns-5 -}
     (λ c. search laws))

@@ -4,13 +4,9 @@ use mathlib.Core.Bool.{Bool, _&&_, not}
 use Prim.Native.Nat.{ℕ}
 use Prim.Native.Char.{code}
 use lib.Dec.{eqb}
-use Rattle.ascii.specs.Ascii.{if_then_else_, isEmpty, between, lower, value}
+use Rattle.ascii.specs.Ascii.{if_then_else_, between, lower}
 use Rattle.origin.specs.Origin.{Authority}
 use Rattle.origin.specs.code.Parts.{isHidden}
-
--- the port by its value, 443 where it is absent
-unfoldable pub effectivePort : Authority → ℕ
-effectivePort a = if isEmpty (a .port) then 443 else value (a .port)
 
 -- what is read of the normal form: the host in lower case, the port where it is shown, no tail
 unfoldable pub normalAuthority : Authority → Authority

@@ -7,11 +7,12 @@ use Prim.Native.Nat.{ℕ, _+_, _-_, _≤_, _<_}
 use Prim.Native.Char.{code}
 use lib.ListN.{length, take, drop, getD}
 use lib.Dec.{leb}
-use Rattle.ascii.specs.Ascii.{Bytes, if_then_else_, isEmpty, lower, same, beginsWith, text, value, number16}
+use Rattle.ascii.specs.Ascii.{Bytes, if_then_else_, isEmpty, lower, same, beginsWith, text, number16}
 use Rattle.ascii.specs.code.Numbers.{numberOf}
 use Rattle.ascii.specs.declared.decimals.Number.{Number}
 use Rattle.ascii.specs.declared.decimals.Number.the-variants.{Malformed as NoNumber}
 use Rattle.origin.specs.Origin.{Authority, shownPort}
+use Rattle.origin.specs.Matching.{effectivePort}
 use Rattle.origin.specs.declared.Parts.{Parts}
 use Rattle.origin.specs.declared.Reading.{Reading}
 use Rattle.origin.specs.declared.Reading.the-variants.{Found, Malformed}
@@ -31,8 +32,8 @@ pub record Inside (s : Bytes) (p : Parts) : Type 0 where
   pub high : p .tail ≤ length s
   -- behind the host stands the colon, where there is a port
   pub colon : p .end < p .tail → getD s (p .end) 0 ≡ code ":"
-  -- the port by its value; 0 where it is absent
-  pub port-is : p .port ≡ value (part s (p .end + 1) (p .tail))
+  -- the port by its value, 443 where it is absent
+  pub port-is : p .port ≡ effectivePort (part s (p .end + 1) (p .tail))
 
 pub data Within (s : Bytes) : Reading → Type 0 where
   nowhere : Within s Malformed
@@ -55,7 +56,7 @@ unfoldable pub portOf : Bytes → Number
 portOf p = if beginsWith (text "0") p then NoNumber else numberOf (number16 p)
 
 abbrev pub withoutPort : ℕ → Parts
-withoutPort end = record { end = end; port = 0; tail = end }
+withoutPort end = record { end = end; port = 443; tail = end }
 
 -- nothing, or one final `/`
 unfoldable pub isEnd : Bytes → Bool

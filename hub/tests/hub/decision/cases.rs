@@ -90,10 +90,13 @@ fn rules_1_and_2_look_at_caller_and_appid_alone() {
 }
 
 #[test]
-fn rule_3_compares_hosts_without_case_and_ports() {
+fn rule_3_compares_hosts_without_case_ports_aside() {
     for (caller, appid, code) in [
         ("https://www.example.com", "https://www.example.com", 3),
         ("https://www.example.com:8443/", "HTTPS://WWW.example.COM:444/x?y", 3),
+        ("https://www.example.com:8443", "https://www.example.com", 3),
+        ("https://www.example.com", "https://www.example.com:8443", 3),
+        ("https://www.example.com:443", "https://www.example.com/", 3),
         ("hTTps://WWW.EXAMPLE.COM", "https://www.example.com?x", 3),
         ("https://192.0.2.1", "https://192.0.2.1:1/", 3),
         ("https://com", "https://com/", 3),
@@ -108,12 +111,21 @@ fn rule_3_compares_hosts_without_case_and_ports() {
 }
 
 #[test]
-fn rule_4_matches_native_in_bytes_and_web_by_host() {
+fn rule_4_matches_native_in_bytes_and_web_by_host_and_port() {
     let ids = ["https://Fido.example.com:444/", "ios:bundle-id:com.acme.App", "https://a.example.com"];
     for (caller, place) in [
-        ("https://fido.example.com", Some(0)),
-        ("HTTPS://FIDO.EXAMPLE.COM:1/", Some(0)),
-        ("https://a.example.com:8443", Some(2)),
+        ("https://fido.example.com:444", Some(0)),
+        ("HTTPS://FIDO.EXAMPLE.COM:444/", Some(0)),
+        ("https://fido.example.com", None),
+        ("https://fido.example.com:443", None),
+        ("https://fido.example.com:4440", None),
+        ("https://fido.example.com:44", None),
+        ("https://fido.example.com:445", None),
+        ("https://a.example.com/", Some(2)),
+        ("https://a.example.com:443", Some(2)),
+        ("https://A.example.com:443/", Some(2)),
+        ("https://a.example.com:444", None),
+        ("https://a.example.com:8443", None),
         ("ios:bundle-id:com.acme.App", Some(1)),
         ("ios:bundle-id:com.acme.app", None),
         ("ios:bundle-id:a.example.com", None),
@@ -130,14 +142,53 @@ fn rule_4_matches_native_in_bytes_and_web_by_host() {
 }
 
 #[test]
+fn accounts_on_443_are_listed_and_the_demo_on_8443_is_not() {
+    // `https://h`, `https://h:443` and `https://h/` are one origin, as caller and as entry.
+    let accounts = ["", "/", ":443", ":443/"].map(|end| format!("https://a.example.com{end}"));
+    let demo = ["https://a.example.com:8443", "https://a.example.com:8443/"];
+    for entry in &accounts {
+        for caller in &accounts {
+            Case { caller: caller.as_bytes().into(), ..case(&[entry]) }.listed_at(0);
+            Case { caller: caller.as_bytes().into(), ..case(&[demo[0], entry]) }.listed_at(1);
+            Case { caller: caller.as_bytes().into(), ..case(&demo) }.decides(114);
+        }
+        for caller in demo {
+            Case { caller: caller.into(), ..case(&[entry]) }.decides(114);
+            Case { caller: caller.into(), ..case(&[entry, demo[0]]) }.listed_at(1);
+        }
+    }
+}
+
+#[test]
+fn ports_that_other_widths_would_take_for_one() {
+    // 443 and 699 have the same last byte; so have 443 and 65,535 - 68 = 65,467. No port wraps around.
+    for (caller, entry, listed) in [
+        ("699", "443", false),
+        ("65467", "443", false),
+        ("65535", "65535", true),
+        ("65535", "65534", false),
+        ("1", "65535", false),
+        ("1", "1", true),
+        ("1", "10", false),
+        ("10", "1", false),
+        ("256", "512", false),
+        ("8443", "4438", false),
+    ] {
+        let origin = |port: &str| format!("https://a.example.com:{port}");
+        let case = Case { caller: origin(caller).into(), ..case(&[&origin(entry)]) };
+        case.decides(if listed { 4 } else { 114 });
+    }
+}
+
+#[test]
 fn the_place_is_the_first_match_among_kept_entries() {
     // Not the place in `ids`.
     case(&["http://a.example.com", "https://a.other.com", "https://b.example.com/x", APP]).listed_at(0);
     case(&["https://a.example.com", "x", "https://a.example.com", APP, "y", APP]).listed_at(2);
     case(&[APP, APP, APP]).listed_at(0);
-    // A web origin first, the same host by another port later.
-    let ids = ["https://b.example.com", "https://a.example.com:444", "https://a.example.com"];
-    Case { caller: b"https://a.example.com".into(), ..case(&ids) }.listed_at(1);
+    // The same host by another port first, then the same port by another host.
+    let ids = ["https://a.example.com:444", "https://b.example.com", "https://a.example.com:443"];
+    Case { caller: b"https://a.example.com".into(), ..case(&ids) }.listed_at(2);
 }
 
 #[test]

@@ -2,7 +2,7 @@
 
 use super::{
     identifier::{
-        bad_url, facet, foreign, host, long, native, no_facet, origin, other_scheme, relative, url,
+        bad_url, facet, foreign, host, long, native, no_facet, origin, other_scheme, relative, sibling, url,
     },
     json::Style,
     list,
@@ -137,8 +137,7 @@ fn caller(random: &mut Random, plan: &Plan, host: &str, entries: &[String]) -> V
         origin(random, host)
     } else if let (true, Some(entry)) = (plan.has(random, 4), listed(random, host, entries)) {
         match model::facet(entry.as_bytes()) {
-            // The same host, another port and other letters.
-            Some(model::Facet::Web(web)) => origin(random, &String::from_utf8(web.host).expect("ASCII")),
+            Some(model::Facet::Web(web)) => sibling(random, &web),
             _ => entry,
         }
     } else {

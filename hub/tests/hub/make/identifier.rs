@@ -1,7 +1,7 @@
 //! Web origins, native identities and HTTPS URLs, good and bad, from few hosts and names.
 
 use super::table::labels;
-use crate::random::Random;
+use crate::{model::identifier::Web, random::Random};
 
 /// A host of few labels, now and then one too long.
 pub fn host(random: &mut Random) -> String {
@@ -27,19 +27,53 @@ fn https(random: &mut Random) -> &'static str {
 
 fn port(random: &mut Random) -> &'static str {
     random.pick(&[
-        "", "", "", "", "", "", ":1", ":9", ":80", ":443", ":444", ":8443", ":9999", ":10000", ":65535",
+        "", "", "", "", "", "", ":1", ":9", ":80", ":443", ":443", ":444", ":8443", ":8444", ":9999",
+        ":10000", ":65535",
     ])
+}
+
+/// A port that differs from this one in one digit.
+fn near(random: &mut Random, port: u32) -> u32 {
+    loop {
+        let mut digits = port.to_string().into_bytes();
+        let at = random.below(digits.len());
+        digits[at] = b"0123456789"[random.below(10)];
+        let other = String::from_utf8(digits.clone()).expect("ASCII").parse().expect("a number");
+        if other != port && other <= 65535 && digits[0] != b'0' {
+            return other;
+        }
+    }
 }
 
 /// A web origin of this host, its letters in any case.
 pub fn origin(random: &mut Random, host: &str) -> String {
+    let port = port(random);
+    origin_with(random, host, port)
+}
+
+fn origin_with(random: &mut Random, host: &str, port: &str) -> String {
     let mut host = host.as_bytes().to_vec();
     if random.chance(30) {
         random.mix_case(&mut host);
     }
     let host = String::from_utf8(host).expect("ASCII");
     let slash = random.pick(&["", "", "/"]);
-    format!("{}{host}{}{slash}", https(random), port(random))
+    format!("{}{host}{port}{slash}", https(random))
+}
+
+/// A web origin of the same host: mostly by the same port, where 443 may be written out or not, else by one that
+/// differs in a digit or by any.
+pub fn sibling(random: &mut Random, web: &Web) -> String {
+    let host = String::from_utf8(web.host.clone()).expect("ASCII");
+    let port = web.port.unwrap_or(443);
+    let port = match random.below(10) {
+        0..=5 => port,
+        6..=8 => near(random, port),
+        _ => return origin(random, &host),
+    };
+    let absent = port == 443 && random.chance(50);
+    let port = if absent { String::new() } else { format!(":{port}") };
+    origin_with(random, &host, &port)
 }
 
 /// A native identity, one of some twenty.

@@ -1,10 +1,13 @@
 //! Trusted facets lists, good and faulty.
 
 use super::{
-    identifier::{facet, long, native, no_facet, origin, other_scheme, relative},
+    identifier::{facet, long, native, no_facet, origin, other_scheme, relative, sibling},
     json::{any, nest, other_name, Json, Style, NO_UTF8, UNREADABLE},
 };
-use crate::random::Random;
+use crate::{
+    model::identifier::{self as model, Facet},
+    random::Random,
+};
 
 /// A version: mostly 1.0.
 pub fn version(random: &mut Random) -> (u16, u16) {
@@ -44,6 +47,14 @@ pub fn entries(random: &mut Random, host: &str) -> Vec<String> {
         // A repeat.
         let again = entries[random.below(count)].clone();
         entries.insert(random.below(count + 1), again);
+    }
+    if random.chance(30) && count > 0 {
+        // Another origin of a host.
+        let of = entries[random.below(entries.len())].clone();
+        if let Some(Facet::Web(web)) = model::facet(of.as_bytes()) {
+            let sibling = sibling(random, &web);
+            entries.insert(random.below(entries.len() + 1), sibling);
+        }
     }
     entries
 }

@@ -82,7 +82,7 @@ pub fn decide(inputs: &Inputs) -> Decision {
         return Err(13);
     }
     // - allowed by rule 4, with the place of the first kept entry matching the caller: native in bytes, web
-    //   by host;
+    //   by host and port, an absent port being 443;
     let kept = Judge { appid: inputs.appid, table: inputs.table }.kept(&entries);
     let place = kept.iter().position(|entry| entry.matches(&caller));
     // - refusal 14.

@@ -86,18 +86,21 @@ impl Facet {
         }
     }
 
-    /// Native in bytes, web by host.
+    /// Native in bytes, web by host and port, an absent port being 443.
     pub fn matches(&self, caller: &Facet) -> bool {
         match (self, caller) {
-            (Facet::Web(entry), Facet::Web(caller)) => entry.host.eq_ignore_ascii_case(&caller.host),
+            (Facet::Web(entry), Facet::Web(caller)) => {
+                let port = |web: &Web| web.port.unwrap_or(443);
+                entry.host.eq_ignore_ascii_case(&caller.host) && port(entry) == port(caller)
+            }
             (Facet::Native(entry), Facet::Native(caller)) => entry == caller,
             _ => false,
         }
     }
 }
 
-/// The host of an HTTPS URL; nothing where the bytes are none.
-pub fn url_host(bytes: &[u8]) -> Option<Vec<u8>> {
+/// Host and port of an HTTPS URL; nothing where the bytes are none.
+pub fn url(bytes: &[u8]) -> Option<Web> {
     // An HTTPS URL has at most 2,048 bytes: `https://`, host, optional port as above, then nothing or a tail
     // beginning with `/` or `?`, of bytes 0x21 to 0x7E without `#`.
     if bytes.len() > 2048 {
@@ -107,5 +110,10 @@ pub fn url_host(bytes: &[u8]) -> Option<Vec<u8>> {
     let end = rest.iter().position(|b| b"/?".contains(b)).unwrap_or(rest.len());
     let (web, tail) = rest.split_at(end);
     let good = tail.iter().all(|b| (0x21..=0x7E).contains(b) && *b != b'#');
-    host_and_port(web).filter(|_| good).map(|web| web.host)
+    host_and_port(web).filter(|_| good)
+}
+
+/// The host of an HTTPS URL.
+pub fn url_host(bytes: &[u8]) -> Option<Vec<u8>> {
+    url(bytes).map(|web| web.host)
 }

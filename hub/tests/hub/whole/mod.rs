@@ -6,9 +6,10 @@ mod rereading;
 use crate::{
     case::Case,
     make::{
-        identifier::{bad_url, facet, relative, url},
+        identifier::{bad_url, facet, relative, sibling, url},
         record::{record, spoil, Answer, Redirect},
     },
+    model::identifier::{self as model, Facet},
     random::Random,
 };
 use facets_hub::{clean, decision_code, decision_code_with_place, fetch_location, Refusal};
@@ -35,9 +36,14 @@ fn fetched(random: &mut Random, host: &str) -> (Vec<u8>, Vec<u8>) {
     (record, text)
 }
 
-/// Callers for a list, each once: its entries, facets or not, and others.
+/// Callers for a list, each once: its entries, facets or not, other origins of their hosts, and others.
 fn callers(random: &mut Random, host: &str, entries: &[&String]) -> Vec<Vec<u8>> {
     let mut callers: Vec<Vec<u8>> = entries.iter().map(|entry| entry.as_bytes().to_vec()).collect();
+    for entry in entries {
+        if let Some(Facet::Web(web)) = model::facet(entry.as_bytes()) {
+            callers.push(sibling(random, &web).into_bytes());
+        }
+    }
     for _ in 0..4 {
         let relative = relative(random, host);
         callers.push(facet(random, &relative).into_bytes());
