@@ -66,13 +66,30 @@ fn ports_are_from_1_to_65535_without_leading_zero() {
         for entry in [origin.clone(), format!("{origin}/")] {
             case(&[&entry]).counts(if good { [1, 0, 0, 0, 0] } else { [0, 0, 0, 1, 0] });
             case(&[&entry]).keeps(&kept[..usize::from(good)]);
-            let caller = Case { caller: entry.into(), ..case(&["https://a.example.com"]) };
-            caller.decides(if good { 4 } else { 101 });
+            let caller = Case { caller: entry.clone().into(), ..case(&["https://a.example.com"]) };
+            caller.decides(if port == "443" { 4 } else { 101 + 13 * u16::from(good) });
+            Case { caller: entry.clone().into(), ..case(&[entry]) }.decides(if good { 4 } else { 101 });
         }
         for tail in ["", "/", "?", "/x:0"] {
             let appid = Case { appid: format!("{origin}{tail}").into(), ..case(&[APP]) };
             appid.decides(if good { 4 } else { 102 });
         }
+    }
+}
+
+#[test]
+fn every_port_is_its_own_and_443_the_absent_one() {
+    let origin = |port: u32| format!("https://a.example.com:{port}");
+    for port in 1..=65535u32 {
+        // Its neighbours, and a port with the same last byte.
+        let others = [port - 1, port + 1, port ^ 256].into_iter().filter(|other| (1..=65535).contains(other));
+        let mut ids: Vec<String> = others.map(origin).collect();
+        let caller = origin(port).into_bytes();
+        Case { caller: caller.clone(), ..case(&ids) }.decides(114);
+        ids.push(origin(port));
+        Case { caller, ..case(&ids) }.listed_at(ids.len() as u32 - 1);
+        let absent = Case { caller: b"https://a.example.com".into(), ..case(&[origin(port)]) };
+        absent.decides(if port == 443 { 4 } else { 114 });
     }
 }
 

@@ -160,27 +160,6 @@ fn accounts_on_443_are_listed_and_the_demo_on_8443_is_not() {
 }
 
 #[test]
-fn ports_that_other_widths_would_take_for_one() {
-    // 443 and 699 have the same last byte; so have 443 and 65,535 - 68 = 65,467. No port wraps around.
-    for (caller, entry, listed) in [
-        ("699", "443", false),
-        ("65467", "443", false),
-        ("65535", "65535", true),
-        ("65535", "65534", false),
-        ("1", "65535", false),
-        ("1", "1", true),
-        ("1", "10", false),
-        ("10", "1", false),
-        ("256", "512", false),
-        ("8443", "4438", false),
-    ] {
-        let origin = |port: &str| format!("https://a.example.com:{port}");
-        let case = Case { caller: origin(caller).into(), ..case(&[&origin(entry)]) };
-        case.decides(if listed { 4 } else { 114 });
-    }
-}
-
-#[test]
 fn the_place_is_the_first_match_among_kept_entries() {
     // Not the place in `ids`.
     case(&["http://a.example.com", "https://a.other.com", "https://b.example.com/x", APP]).listed_at(0);
