@@ -8,7 +8,7 @@ use native.Mathlib.Numerals.{add-one}
 use native.Mathlib.Omega.{arith}
 use lib.ListN.{length, getD, take, drop, drop-of-length-le}
 use lib.Seq.{drop-cons}
-use lib.Dec.{eqb, leb}
+use lib.Dec.{leb}
 use borrow.Author.Tests.{eq-eqb, ne-eqb, lt-leb, le-leb, leb-true, leb-false}
 use Rattle.ascii.specs.Ascii.{Bytes, if_then_else_, _when_, isEmpty, all, takeWhile, isDigit, same, sameNoCase, beginsWith, beginsWithNoCase, text, value, number16}
 use Rattle.ascii.specs.code.Numbers.{numberOf}
@@ -20,7 +20,7 @@ use Rattle.suffix.specs.Host.{isHost}
 use Rattle.suffix.proofs.Places.{rest-whole}
 use Rattle.origin.specs.Origin.{Authority, beginsHttps, isPort, readPort, isHostByte, readHost, readHttps, webOrigin, isNative, isFacet, isTail, httpsUrl}
 use Rattle.origin.specs.Matching.{sameHost, effectivePort, sameOrigin, facetMatches}
-use Rattle.origin.specs.code.Parts.{part, authorityIn, Inside, Within, nowhere, within, Reads, portOf, withoutPort, HostEnd, isEnd}
+use Rattle.origin.specs.code.Parts.{part, authorityIn, Inside, Within, nowhere, within, Reads, portOf, withoutPort, HostEnd, sameAt, isEnd}
 use Rattle.origin.specs.declared.Parts.{Parts}
 use Rattle.origin.specs.declared.Reading.{Reading}
 use Rattle.origin.specs.declared.Reading.the-variants.{Found, Malformed}
@@ -183,8 +183,8 @@ module _ {s : Bytes} {o : Option Authority} {q : Reading} {p : Parts} (R : Reads
   pub found-tail : p .tail ≤ length s
   found-tail = I .high
 
-  found-port : p .port ≡ effectivePort (part s (p .end + 1) (p .tail))
-  found-port = I .port-is
+  pub found-inside : Inside s p
+  found-inside = I
 
 -- ---- web origins
 
@@ -249,6 +249,19 @@ module _ (s : Bytes) {q : Reading} (l : length s ≤ 512) (R : Reads s (webOrigi
 
 -- ---- hosts and ports compared
 
+pub names-compared : (s t : Bytes) (a b : ℕ) {r : Bool} → r ≡ sameNoCase (take (a - 8) (drop 8 s)) (take (b - 8) (drop 8 t)) → r ≡ sameNoCase (part s 8 a) (part t 8 b)
+unfolding part
+names-compared s t a b e = e
+
+module _ (s t : Bytes) (p q : Parts) where
+  pub ports-equal : {r : Bool} → p .port ≡ q .port → r ≡ sameNoCase (part s 8 (p .end)) (part t 8 (q .end)) → r ≡ sameAt s p t q
+  unfolding sameAt
+  ports-equal e f = f ∙ rw (eq-eqb (p .port) (q .port) e, and-true)
+
+  pub ports-differ : (p .port ≡ q .port → ⊥) → false ≡ sameAt s p t q
+  unfolding sameAt
+  ports-differ n = rw (ne-eqb (p .port) (q .port) n, and-false)
+
 module _ (s : Bytes) {q : Reading} (R : Reads s (webOrigin s) q) where
   pub host-no-caller : (o : Option Authority) → q ≡ Malformed → false ≡ sameHost (webOrigin s) o
   unfolding sameHost
@@ -264,8 +277,8 @@ module _ (s : Bytes) {q : Reading} (R : Reads s (webOrigin s) q) where
     unfolding sameHost authorityIn
     host-no-other k = rw (← is-none Q k, ← found R h .is)
 
-    pub host-both : {p′ : Parts} {r : Bool} → q′ ≡ Found p′ → r ≡ sameNoCase (take (p .end - 8) (drop 8 s)) (take (p′ .end - 8) (drop 8 t)) → r ≡ sameHost (webOrigin s) o
-    unfolding sameHost authorityIn part
+    pub host-both : {p′ : Parts} {r : Bool} → q′ ≡ Found p′ → r ≡ sameNoCase (part s 8 (p .end)) (part t 8 (p′ .end)) → r ≡ sameHost (webOrigin s) o
+    unfolding sameHost authorityIn
     host-both k f = f ∙ rw (← found Q k .is, ← found R h .is)
 
   module _ {p : Parts} {t : Bytes} {q′ : Reading} (h : q ≡ Found p) (Q : Reads t (webOrigin t) q′) where
@@ -273,14 +286,6 @@ module _ (s : Bytes) {q : Reading} (R : Reads s (webOrigin s) q) where
     unfolding facetMatches sameOrigin authorityIn
     match-no-other k = rw (← is-none Q k, ← found R h .is)
 
-    module _ {p′ : Parts} (k : q′ ≡ Found p′) where
-      match-is : facetMatches s t ≡ (sameNoCase (part s 8 (p .end)) (part t 8 (p′ .end)) && eqb (p .port) (p′ .port))
-      unfolding facetMatches sameOrigin authorityIn
-      match-is = rw (← found R h .is, ← found Q k .is, found-port R h, found-port Q k)
-
-      pub match-ports : (p .port ≡ p′ .port → ⊥) → false ≡ facetMatches s t
-      match-ports n = sym (match-is ∙ rw (ne-eqb (p .port) (p′ .port) n, and-false))
-
-      pub match-both : {r : Bool} → p .port ≡ p′ .port → r ≡ sameNoCase (take (p .end - 8) (drop 8 s)) (take (p′ .end - 8) (drop 8 t)) → r ≡ facetMatches s t
-      unfolding part
-      match-both e f = f ∙ sym (match-is ∙ rw (eq-eqb (p .port) (p′ .port) e, and-true))
+    pub match-both : {p′ : Parts} {r : Bool} → q′ ≡ Found p′ → r ≡ sameAt s p t p′ → r ≡ facetMatches s t
+    unfolding facetMatches sameOrigin authorityIn sameAt
+    match-both k f = f ∙ rw (← found R h .is, ← found Q k .is, found-inside R h .port-is, found-inside Q k .port-is)

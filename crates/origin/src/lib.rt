@@ -5,12 +5,12 @@ use ascii::decimals::Number;
 ghost use mathlib.Core.Path.{_≡_};
 ghost use Prim.Native.Nat.{_+_, _≤_};
 ghost use lib.ListN.{length, drop};
-ghost use Rattle.ascii.specs.Ascii.{isDigit, takeWhile};
+ghost use Rattle.ascii.specs.Ascii.{isDigit, sameNoCase, takeWhile};
 ghost use Rattle.ascii.specs.Class.{Classifies};
 ghost use Rattle.origin.specs.Origin.{beginsHttps, beginsNative, isHostByte, readPort, readHost, readHttps, webOrigin, isKeyHashByte, isAndroid, isIos, isNative, isFacet, isTailByte, isTail, httpsUrl};
 ghost use Rattle.origin.specs.Matching.{sameHost, facetMatches};
 ghost use Rattle.origin.specs.code.Unlike.{isStop, mayEnd, apart, unlike};
-ghost use Rattle.origin.specs.code.Parts.{part, isEnd, beginsTail, portOf, withoutPort, HostEnd, Reads};
+ghost use Rattle.origin.specs.code.Parts.{part, isEnd, beginsTail, portOf, withoutPort, HostEnd, Inside, Reads, sameAt};
 
 // Where the parts of a text that begins `https://` stand: the host from 8 to end, then the port, then what is
 // left from tail on. The port is its number, 443 where it is absent.
@@ -325,6 +325,14 @@ pub fn is_facet(s: &[u8]) -> bool
     is_native(s)
 }
 
+// Two hosts, from 8 to their ends, are equal.
+fn same_names(x: &[u8], end: usize, y: &[u8], other: usize) -> bool
+    requires { ⌜ HostEnd (now x) end × HostEnd (now y) other ⌝ }
+    ensures { λ r. ⌜ r ≡ sameNoCase (part (now (x .entry)) 8 end) (part (now (y .entry)) 8 other) ⌝ }
+{
+    ascii::equal_no_case(&x[8..end], &y[8..other])
+}
+
 // A web caller's host is the AppID's, ports aside.
 pub fn same_host(caller: &[u8], appid: &[u8]) -> bool
     ensures { λ r. ⌜ r ≡ sameHost (webOrigin (now (caller .entry))) (httpsUrl (now (appid .entry))) ⌝ }
@@ -335,9 +343,18 @@ pub fn same_host(caller: &[u8], appid: &[u8]) -> bool
     let Reading::Found(q) = https_url(appid) else {
         return false;
     };
-    let a = p.end;
-    let b = q.end;
-    ascii::equal_no_case(&caller[8..a], &appid[8..b])
+    same_names(caller, p.end, appid, q.end)
+}
+
+// Hosts and ports of two texts with these parts are equal.
+fn same_origin(x: &[u8], p: Parts, y: &[u8], q: Parts) -> bool
+    requires { ⌜ Inside (now x) p × Inside (now y) q ⌝ }
+    ensures { λ r. ⌜ r ≡ sameAt (now (x .entry)) p (now (y .entry)) q ⌝ }
+{
+    if p.port == q.port {
+        return same_names(x, p.end, y, q.end);
+    }
+    false
 }
 
 // What may follow a host: `:` or `/`.
@@ -406,10 +423,5 @@ pub fn matches(caller: &[u8], entry: &[u8]) -> bool
     let Reading::Found(q) = web_origin(entry) else {
         return false;
     };
-    let end = p.end;
-    let other = q.end;
-    if p.port != q.port {
-        return false;
-    }
-    ascii::equal_no_case(&caller[8..end], &entry[8..other])
+    same_origin(caller, p, entry, q)
 }

@@ -1,5 +1,5 @@
 -- `origin::matches` meets its contract.
-use Rattle.origin.proofs.Laws.{laws}
+use Rattle.origin.proofs.Laws.{laws, matching}
 use Rattle.origin.proofs.matches.Statement.{statement}
 use Rattle.origin.proofs.matches.Tie as tie
 
@@ -10,7 +10,7 @@ matches-spec =
     {- are-unlike-requires -}
     (λ c κs. search laws)
     {- returns -}
-    (λ c. search laws)
+    (λ c. search matching)
     {- web-origin-requires -}
     (λ c κs. search laws)
     {- enum-known-p -}
@@ -20,7 +20,7 @@ matches-spec =
     {- equal-requires -}
     (λ c κs. search laws)
     {- returns-2 -}
-    (λ c. search laws)
+    (λ c. search matching)
     {- web-origin-requires-2 -}
     (λ c κs. search laws)
     {- enum-known-q -}
@@ -28,22 +28,8 @@ matches-spec =
     {- enum-told-2 -}
     (λ c. search laws)
     {- returns-3 -}
-    (λ c. search laws)
-    {- returns-4 -}
-    (λ c. search laws)
-    {- sub-equal-no-case -}
-    (λ c. search laws)
-    {- part-equal-no-case-start -}
-    (λ c. search laws)
-    {- part-equal-no-case-end -}
-    (λ c. search laws)
-    {- sub-equal-no-case-2 -}
-    (λ c. search laws)
-    {- part-equal-no-case-start-2 -}
-    (λ c. search laws)
-    {- part-equal-no-case-end-2 -}
-    (λ c. search laws)
-    {- equal-no-case-requires -}
+    (λ c. search matching)
+    {- same-origin-requires -}
     (λ c κs. search laws)
-    {- returns-5 -}
-    (λ c. search laws))
+    {- returns-4 -}
+    (λ c. search matching))

@@ -1,5 +1,5 @@
--- `origin::same_host` meets its contract. Assumes nothing.
-use Rattle.origin.proofs.Laws.{laws}
+-- `origin::same_host` meets its contract.
+use Rattle.origin.proofs.Laws.{laws, matching}
 use Rattle.origin.proofs.same_host.Statement.{statement}
 use Rattle.origin.proofs.same_host.Tie as tie
 
@@ -14,7 +14,7 @@ same-host-spec =
     {- enum-told -}
     (λ c. search laws)
     {- returns -}
-    (λ c. search laws)
+    (λ c. search matching)
     {- https-url-requires -}
     (λ c κs. search laws)
     {- enum-known-q -}
@@ -22,20 +22,8 @@ same-host-spec =
     {- enum-told-2 -}
     (λ c. search laws)
     {- returns-2 -}
-    (λ c. search laws)
-    {- sub-equal-no-case -}
-    (λ c. search laws)
-    {- part-equal-no-case-start -}
-    (λ c. search laws)
-    {- part-equal-no-case-end -}
-    (λ c. search laws)
-    {- sub-equal-no-case-2 -}
-    (λ c. search laws)
-    {- part-equal-no-case-start-2 -}
-    (λ c. search laws)
-    {- part-equal-no-case-end-2 -}
-    (λ c. search laws)
-    {- equal-no-case-requires -}
+    (λ c. search matching)
+    {- same-names-requires -}
     (λ c κs. search laws)
     {- returns-3 -}
-    (λ c. search laws))
+    (λ c. search matching))

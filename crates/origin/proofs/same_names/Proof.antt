@@ -1,0 +1,25 @@
+-- `origin::same_names` meets its contract.
+use Rattle.origin.proofs.Laws.{laws, matching}
+use Rattle.origin.proofs.same_names.Statement.{statement}
+use Rattle.origin.proofs.same_names.Tie as tie
+
+pub same-names-spec : {M : Type 1} → statement M
+same-names-spec =
+    tie.close
+    (tie.spec
+    {- sub-equal-no-case -}
+    (λ c. search laws)
+    {- part-equal-no-case-start -}
+    (λ c. search laws)
+    {- part-equal-no-case-end -}
+    (λ c. search laws)
+    {- sub-equal-no-case-2 -}
+    (λ c. search laws)
+    {- part-equal-no-case-start-2 -}
+    (λ c. search laws)
+    {- part-equal-no-case-end-2 -}
+    (λ c. search laws)
+    {- equal-no-case-requires -}
+    (λ c κs. search laws)
+    {- returns -}
+    (λ c. search matching))
