@@ -6,13 +6,13 @@ use mathlib.Core.Bool.{Bool, true, false, _&&_, not, and-eq-true-iff}
 use mathlib.Core.Option.{Option, none, some, Option·map}
 use Prim.Native.Nat.{ℕ, suc}
 use native.Mathlib.Omega.{arith}
-use lib.Dec.{eqb}
 use borrow.Author.Tests.{not-false}
 use Rattle.ascii.specs.Ascii.{Bytes, if_then_else_, _>>=_, isEmpty, all, same, lower, sameNoCase}
 use Rattle.suffix.specs.Suffix.{privateLabel}
 use Rattle.suffix.proofs.Case.{private-label}
 use Rattle.origin.specs.Origin.{Authority, beginsHttps, httpsUrl, webOrigin, isFacet}
-use Rattle.origin.specs.Matching.{sameHost, effectivePort, sameOrigin, facetMatches}
+use Rattle.origin.specs.Matching.{sameHost, sameOrigin, facetMatches}
+use Rattle.origin.proofs.Origins.{same-origin-host}
 use Rattle.ascii.proofs.Compare.{same-eq}
 use Rattle.refusals.specs.declared.Refusal.{Refusal}
 use Rattle.trusted_list.specs.TrustedList.{entries}
@@ -112,8 +112,7 @@ module _ (caller appid table : Bytes) (origin : Authority) (web : webOrigin call
       go (some b) p q =
           agree-same table appid (origin .host)
           (agree-case (privateLabel table (b .host)) (privateLabel table (origin .host)) (appLabel table appid)
-          (sym (label-case table (origin .host) (b .host) (and-eq-true-iff (sameNoCase (origin .host) (b .host)) (eqb (effectivePort (origin .port)) (effectivePort (b .port))) .0 q .0)))
-          (not-false _ p))
+          (sym (label-case table (origin .host) (b .host) (same-origin-host origin b q))) (not-false _ p))
 
   by-list-label : (major minor : ℕ) (body : Bytes) (stage : Stage) (n : ℕ) → NoRule4 stage → byList caller appid major minor body table stage ≡ rule4 n → SameLabel table appid (origin .host)
   unfolding byList
