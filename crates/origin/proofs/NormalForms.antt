@@ -124,7 +124,7 @@ pub host-normal : (a : Authority) → normalAuthority a .host ≡ lower (a .host
 unfolding normalAuthority
 host-normal a = refl
 
-pub port-normal : (a : Authority) → effectivePort (normalAuthority a .port) ≡ effectivePort (a .port)
+port-normal : (a : Authority) → effectivePort (normalAuthority a .port) ≡ effectivePort (a .port)
 unfolding effectivePort normalAuthority isHidden
 port-normal a = go (isEmpty (a .port)) refl (same (a .port) (text "443")) refl
   where
@@ -184,10 +184,13 @@ differ s t b p q = go (same s t) refl
     go false e = e
     go true e = let w : s ≡ t = same-eq s t e in let z : _≡_ {A = ℕ} 0 1 = cc in absurd (omega arith)
 
-match-web : (caller t : Bytes) (c b : Authority) → webOrigin caller ≡ some c → webOrigin t ≡ some b
-    → facetMatches caller t ≡ (sameNoCase (c .host) (b .host) && eqb (effectivePort (c .port)) (effectivePort (b .port)))
-unfolding facetMatches sameOrigin
+match-web : (caller t : Bytes) (c b : Authority) → webOrigin caller ≡ some c → webOrigin t ≡ some b → facetMatches caller t ≡ sameOrigin (some c) (some b)
+unfolding facetMatches
 match-web caller t c b p q = rw (p, q, facetMatches)
+
+same-normal : (c a : Authority) → sameOrigin (some c) (some (normalAuthority a)) ≡ sameOrigin (some c) (some a)
+unfolding sameOrigin
+same-normal c a = rw (host-normal a, same-lower (c .host) (a .host), port-normal a)
 
 match-own : (caller t : Bytes) → webOrigin caller ≡ none → facetMatches caller t ≡ same caller t
 unfolding facetMatches
@@ -204,5 +207,5 @@ match-normal caller e = go (webOrigin e) refl (webOrigin caller) refl
         ∙ sym (match-own caller e q ∙ differ caller e a q p)
     go (some a) p (some c) q =
         match-web caller (normalForm e) c (normalAuthority a) q (origin-normal e a p)
-        ∙ (rw (host-normal a, same-lower (c .host) (a .host), port-normal a))
+        ∙ same-normal c a
         ∙ sym (match-web caller e c a q p)

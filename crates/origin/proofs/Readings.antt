@@ -31,13 +31,17 @@ no-part : (s : Bytes) (end : ℕ) → part s (end + 1) end ≡ []
 unfolding part
 no-part s end = let z : end - (end + 1) ≡ 0 = omega arith in rw z
 
-module _ (s : Bytes) (end : ℕ) {q : Reading} (H : HostEnd s end) (e : q ≡ Found (withoutPort end)) where
+pub port-absent : (s : Bytes) (end n : ℕ) → HostEnd s end → n ≡ 443 → Reads s (some (withoutPort s end)) (Found (record { end = end; port = n; tail = end }))
+unfolding authorityIn effectivePort
+port-absent s end n H e = record {
+  is = rw (no-part s end);
+  places = within {p = record { end = end; port = n; tail = end }} (record { low = H .low; middle = omega arith; high = H .high; colon = λ l. absurd (omega arith); port-is = rw (no-part s end) e });
+}
+
+module _ (s : Bytes) (end : ℕ) {q : Reading} (R : Reads s (some (withoutPort s end)) q) where
   without : beginsWith (text ":") (drop end s) ≡ false → Reads s (readPort (part s 8 end) (drop end s)) q
-  unfolding readPort authorityIn effectivePort
-  without h = record {
-    is = rw (e, h, no-part s end);
-    places = rw e (within {p = withoutPort end} (record { low = H .low; middle = omega arith; high = H .high; colon = λ l. absurd (omega arith); port-is = rw (no-part s end) }));
-  }
+  unfolding readPort
+  without h = record { is = R .is ∙ sym (rw h); places = R .places }
 
   pub port-at-end : length s ≤ end → Reads s (readPort (part s 8 end) (drop end s)) q
   unfolding beginsWith
@@ -165,26 +169,23 @@ inside : {s : Bytes} {p : Parts} → Within s (Found p) → Inside s p
 inside (within I) = I
 
 module _ {s : Bytes} {o : Option Authority} {q : Reading} {p : Parts} (R : Reads s o q) (h : q ≡ Found p) where
-  I : Inside s p
-  I = inside (found R h .places)
+  pub found-inside : Inside s p
+  found-inside = inside (found R h .places)
 
   pub found-low : 8 ≤ p .end
-  found-low = I .low
+  found-low = found-inside .low
 
   pub found-high : p .end ≤ length s
-  found-high = omega (arith, I .middle, I .high)
+  found-high = omega (arith, found-inside .middle, found-inside .high)
 
   pub found-middle : p .end ≤ p .tail
-  found-middle = I .middle
+  found-middle = found-inside .middle
 
   pub found-colon : p .end < p .tail → getD s (p .end) 0 ≡ 58
-  found-colon = I .colon
+  found-colon = found-inside .colon
 
   pub found-tail : p .tail ≤ length s
-  found-tail = I .high
-
-  pub found-inside : Inside s p
-  found-inside = I
+  found-tail = found-inside .high
 
 -- ---- web origins
 
@@ -249,9 +250,9 @@ module _ (s : Bytes) {q : Reading} (l : length s ≤ 512) (R : Reads s (webOrigi
 
 -- ---- hosts and ports compared
 
-pub names-compared : (s t : Bytes) (a b : ℕ) {r : Bool} → r ≡ sameNoCase (take (a - 8) (drop 8 s)) (take (b - 8) (drop 8 t)) → r ≡ sameNoCase (part s 8 a) (part t 8 b)
+pub hosts-compared : (s t : Bytes) (a b : ℕ) {r : Bool} → r ≡ sameNoCase (take (a - 8) (drop 8 s)) (take (b - 8) (drop 8 t)) → r ≡ sameNoCase (part s 8 a) (part t 8 b)
 unfolding part
-names-compared s t a b e = e
+hosts-compared s t a b e = e
 
 module _ (s t : Bytes) (p q : Parts) where
   pub ports-equal : {r : Bool} → p .port ≡ q .port → r ≡ sameNoCase (part s 8 (p .end)) (part t 8 (q .end)) → r ≡ sameAt s p t q

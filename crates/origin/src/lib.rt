@@ -2,6 +2,7 @@
 pub mod normal;
 
 use ascii::decimals::Number;
+ghost use mathlib.Core.Option.{some};
 ghost use mathlib.Core.Path.{_≡_};
 ghost use Prim.Native.Nat.{_+_, _≤_};
 ghost use lib.ListN.{length, drop};
@@ -97,10 +98,10 @@ fn read_port(s: &[u8], end: usize) -> Reading
     ensures { λ r. ⌜ Reads (now (s .entry)) (readPort (part (now (s .entry)) 8 end) (drop end (now (s .entry)))) r ⌝ }
 {
     if s.len() <= end {
-        return no_port(end);
+        return no_port(s, end);
     }
     if s[end] != b':' {
-        return no_port(end);
+        return no_port(s, end);
     }
     let from = end + 1;
     let tail = digits_stop(s, from);
@@ -110,8 +111,9 @@ fn read_port(s: &[u8], end: usize) -> Reading
     }
 }
 
-fn no_port(end: usize) -> Reading
-    ensures { λ r. ⌜ r ≡ Reading.Found (withoutPort end) ⌝ }
+fn no_port(s: &[u8], end: usize) -> Reading
+    requires { ⌜ HostEnd (now s) end ⌝ }
+    ensures { λ r. ⌜ Reads (now (s .entry)) (some (withoutPort (now (s .entry)) end)) r ⌝ }
 {
     Reading::Found(Parts {
         end,
@@ -325,12 +327,12 @@ pub fn is_facet(s: &[u8]) -> bool
     is_native(s)
 }
 
-// Two hosts, from 8 to their ends, are equal.
-fn same_names(x: &[u8], end: usize, y: &[u8], other: usize) -> bool
-    requires { ⌜ HostEnd (now x) end × HostEnd (now y) other ⌝ }
-    ensures { λ r. ⌜ r ≡ sameNoCase (part (now (x .entry)) 8 end) (part (now (y .entry)) 8 other) ⌝ }
+// The hosts of x and y, which end at a and b, are equal without regard to case.
+fn equal_hosts(x: &[u8], a: usize, y: &[u8], b: usize) -> bool
+    requires { ⌜ HostEnd (now x) a × HostEnd (now y) b ⌝ }
+    ensures { λ r. ⌜ r ≡ sameNoCase (part (now (x .entry)) 8 a) (part (now (y .entry)) 8 b) ⌝ }
 {
-    ascii::equal_no_case(&x[8..end], &y[8..other])
+    ascii::equal_no_case(&x[8..a], &y[8..b])
 }
 
 // A web caller's host is the AppID's, ports aside.
@@ -343,7 +345,7 @@ pub fn same_host(caller: &[u8], appid: &[u8]) -> bool
     let Reading::Found(q) = https_url(appid) else {
         return false;
     };
-    same_names(caller, p.end, appid, q.end)
+    equal_hosts(caller, p.end, appid, q.end)
 }
 
 // Hosts and ports of two texts with these parts are equal.
@@ -352,7 +354,7 @@ fn same_origin(x: &[u8], p: Parts, y: &[u8], q: Parts) -> bool
     ensures { λ r. ⌜ r ≡ sameAt (now (x .entry)) p (now (y .entry)) q ⌝ }
 {
     if p.port == q.port {
-        return same_names(x, p.end, y, q.end);
+        return equal_hosts(x, p.end, y, q.end);
     }
     false
 }

@@ -118,7 +118,7 @@ pub fn worst() -> Vec<Body> {
         full("escaped", "web origins, every byte written as `\\u00xx`", |count| {
             (0..count).map(|n| escaped(&format!("https://w{n:04}.{OWNER}"))).collect()
         }),
-        full("ports", "the caller's host by other ports", |count| {
+        full("ports", "the caller's host on other ports", |count| {
             (0..count).map(|n| format!("https://none.{OWNER}:{}", 10_000 + n)).collect()
         }),
         full("native", "the shortest native identities", same("ios:bundle-id:a")),

@@ -116,6 +116,7 @@ fn worst() -> Vec<(String, u16, Case)> {
     };
     // One byte longer than its cleaned list.
     let loose = |ids: &[&str]| [body(ids), b" ".to_vec()].concat();
+    let on_port = || Case { caller: format!("{host}:65535").into(), ..base() };
     let web = || Case { caller: host.clone().into(), body: loose(&[&host, APP]), ..base() };
     // The longest rules there are, deeper than the AppID's label.
     let deepest = format!("{}l.l.example.com\n", "x.".repeat(119));
@@ -136,6 +137,11 @@ fn worst() -> Vec<(String, u16, Case)> {
         ("longest string", 114, Case { body: body_of(&format!("[\"{longest}\"]")), ..base() }),
         ("longest skipped string", 4, Case { body: member(&format!("\"{longest}\"")), ..base() }),
         ("65,536 bytes of escapes", 4, Case { body: escapes(41), ..base() }),
+        (
+            "the caller's host on another port",
+            114,
+            Case { body: loose(&[&format!("{host}:65534")]), ..on_port() },
+        ),
         ("largest table", 4, Case { table: table_of("example.com\n"), ..web() }),
         ("shortest lines", 4, Case { table: table_of("*\n"), ..web() }),
         ("longest deeper rules", 4, Case { table: table_of(&deepest), ..web() }),

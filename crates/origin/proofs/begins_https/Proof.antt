@@ -1,4 +1,4 @@
--- `origin::begins_https` meets its contract. Assumes nothing.
+-- `origin::begins_https` meets its contract.
 use Rattle.origin.proofs.Laws.{laws}
 use Rattle.origin.proofs.begins_https.Statement.{statement}
 use Rattle.origin.proofs.begins_https.Tie as tie

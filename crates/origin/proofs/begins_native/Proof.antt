@@ -1,4 +1,4 @@
--- `origin::begins_native` meets its contract. Assumes nothing.
+-- `origin::begins_native` meets its contract.
 use Rattle.origin.proofs.Laws.{laws}
 use Rattle.origin.proofs.begins_native.Statement.{statement}
 use Rattle.origin.proofs.begins_native.Tie as tie

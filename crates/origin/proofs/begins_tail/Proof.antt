@@ -1,4 +1,4 @@
--- `origin::begins_tail` meets its contract. Assumes nothing.
+-- `origin::begins_tail` meets its contract.
 use Rattle.origin.proofs.Laws.{laws}
 use Rattle.origin.proofs.begins_tail.Statement.{statement}
 use Rattle.origin.proofs.begins_tail.Tie as tie

@@ -1,4 +1,4 @@
--- `origin::host_stop` meets its contract. Assumes nothing.
+-- `origin::host_stop` meets its contract.
 use mathlib.Core.Path.{_≡_}
 use Prim.Native.Nat.{_+_, _-_}
 use lib.ListN.{length, drop}

@@ -1,4 +1,4 @@
--- `origin::https_url` meets its contract. Assumes nothing.
+-- `origin::https_url` meets its contract.
 use Rattle.origin.proofs.Laws.{laws}
 use Rattle.origin.proofs.https_url.Statement.{statement}
 use Rattle.origin.proofs.https_url.Tie as tie

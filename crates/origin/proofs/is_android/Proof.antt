@@ -1,4 +1,4 @@
--- `origin::is_android` meets its contract. Assumes nothing.
+-- `origin::is_android` meets its contract.
 use Rattle.origin.proofs.Laws.{laws}
 use Rattle.origin.proofs.is_android.Statement.{statement}
 use Rattle.origin.proofs.is_android.Tie as tie

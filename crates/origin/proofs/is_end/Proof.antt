@@ -1,4 +1,4 @@
--- `origin::is_end` meets its contract. Assumes nothing.
+-- `origin::is_end` meets its contract.
 use Rattle.origin.proofs.Laws.{laws}
 use Rattle.origin.proofs.is_end.Statement.{statement}
 use Rattle.origin.proofs.is_end.Tie as tie

@@ -1,4 +1,4 @@
--- `origin::is_facet` meets its contract. Assumes nothing.
+-- `origin::is_facet` meets its contract.
 use Rattle.origin.proofs.Laws.{laws}
 use Rattle.origin.proofs.is_facet.Statement.{statement}
 use Rattle.origin.proofs.is_facet.Tie as tie

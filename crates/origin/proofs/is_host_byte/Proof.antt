@@ -1,4 +1,4 @@
--- `origin::is_host_byte` meets its contract. Assumes nothing.
+-- `origin::is_host_byte` meets its contract.
 use Rattle.origin.proofs.Laws.{laws}
 use Rattle.origin.proofs.is_host_byte.Statement.{statement}
 use Rattle.origin.proofs.is_host_byte.Tie as tie

@@ -1,4 +1,4 @@
--- `origin::is_ios` meets its contract. Assumes nothing.
+-- `origin::is_ios` meets its contract.
 use Rattle.origin.proofs.Laws.{laws}
 use Rattle.origin.proofs.is_ios.Statement.{statement}
 use Rattle.origin.proofs.is_ios.Tie as tie

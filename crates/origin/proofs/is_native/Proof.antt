@@ -1,4 +1,4 @@
--- `origin::is_native` meets its contract. Assumes nothing.
+-- `origin::is_native` meets its contract.
 use Rattle.origin.proofs.Laws.{laws}
 use Rattle.origin.proofs.is_native.Statement.{statement}
 use Rattle.origin.proofs.is_native.Tie as tie

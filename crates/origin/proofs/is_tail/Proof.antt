@@ -1,4 +1,4 @@
--- `origin::is_tail` meets its contract. Assumes nothing.
+-- `origin::is_tail` meets its contract.
 use Rattle.origin.proofs.Laws.{laws}
 use Rattle.origin.proofs.is_tail.Statement.{statement}
 use Rattle.origin.proofs.is_tail.Tie as tie

@@ -1,4 +1,4 @@
--- `origin::port_number` meets its contract. Assumes nothing.
+-- `origin::port_number` meets its contract.
 use Rattle.origin.proofs.Laws.{laws}
 use Rattle.origin.proofs.port_number.Statement.{statement}
 use Rattle.origin.proofs.port_number.Tie as tie

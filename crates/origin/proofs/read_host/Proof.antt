@@ -1,4 +1,4 @@
--- `origin::read_host` meets its contract. Assumes nothing.
+-- `origin::read_host` meets its contract.
 use Rattle.origin.proofs.Laws.{laws}
 use Rattle.origin.proofs.read_host.Statement.{statement}
 use Rattle.origin.proofs.read_host.Tie as tie

@@ -1,4 +1,4 @@
--- `origin::read_https` meets its contract. Assumes nothing.
+-- `origin::read_https` meets its contract.
 use Rattle.origin.proofs.Laws.{laws}
 use Rattle.origin.proofs.read_https.Statement.{statement}
 use Rattle.origin.proofs.read_https.Tie as tie

@@ -1,4 +1,4 @@
--- `origin::read_port` meets its contract. Assumes nothing.
+-- `origin::read_port` meets its contract.
 use Rattle.origin.proofs.Laws.{laws}
 use Rattle.origin.proofs.read_port.Statement.{statement}
 use Rattle.origin.proofs.read_port.Tie as tie

@@ -23,7 +23,7 @@ same-host-spec =
     (λ c. search laws)
     {- returns-2 -}
     (λ c. search matching)
-    {- same-names-requires -}
+    {- equal-hosts-requires -}
     (λ c κs. search laws)
     {- returns-3 -}
     (λ c. search matching))

@@ -1,4 +1,4 @@
--- `origin::web_origin` meets its contract. Assumes nothing.
+-- `origin::web_origin` meets its contract.
 use Rattle.origin.proofs.Laws.{laws}
 use Rattle.origin.proofs.web_origin.Statement.{statement}
 use Rattle.origin.proofs.web_origin.Tie as tie

@@ -1,6 +1,6 @@
 -- What the code answers: where the parts of an identifier stand in it.
 use mathlib.Core.Path.{_≡_}
-use mathlib.Core.List.{_++_}
+use mathlib.Core.List.{[], _++_}
 use mathlib.Core.Option.{Option, none, some}
 use mathlib.Core.Bool.{Bool, _&&_, _||_}
 use Prim.Native.Nat.{ℕ, _+_, _-_, _≤_, _<_}
@@ -59,8 +59,9 @@ pub record HostEnd (s : Bytes) (end : ℕ) : Type 0 where
 unfoldable pub portOf : Bytes → Number
 portOf p = if beginsWith (text "0") p then NoNumber else numberOf (number16 p)
 
-abbrev pub withoutPort : ℕ → Parts
-withoutPort end = record { end = end; port = 443; tail = end }
+-- a host that ends at this place, and no port
+abbrev pub withoutPort : Bytes → ℕ → Authority
+withoutPort s end = record { host = part s 8 end; port = []; tail = drop end s }
 
 -- nothing, or one final `/`
 unfoldable pub isEnd : Bytes → Bool

@@ -67,7 +67,11 @@ fn ports_are_from_1_to_65535_without_leading_zero() {
             case(&[&entry]).counts(if good { [1, 0, 0, 0, 0] } else { [0, 0, 0, 1, 0] });
             case(&[&entry]).keeps(&kept[..usize::from(good)]);
             let caller = Case { caller: entry.clone().into(), ..case(&["https://a.example.com"]) };
-            caller.decides(if port == "443" { 4 } else { 101 + 13 * u16::from(good) });
+            caller.decides(match (good, port) {
+                (true, "443") => 4,
+                (true, _) => 114,
+                (false, _) => 101,
+            });
             Case { caller: entry.clone().into(), ..case(&[entry]) }.decides(if good { 4 } else { 101 });
         }
         for tail in ["", "/", "?", "/x:0"] {

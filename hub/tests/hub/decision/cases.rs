@@ -165,7 +165,7 @@ fn the_place_is_the_first_match_among_kept_entries() {
     case(&["http://a.example.com", "https://a.other.com", "https://b.example.com/x", APP]).listed_at(0);
     case(&["https://a.example.com", "x", "https://a.example.com", APP, "y", APP]).listed_at(2);
     case(&[APP, APP, APP]).listed_at(0);
-    // The same host by another port first, then the same port by another host.
+    // The same host on another port first, then another host on the same port.
     let ids = ["https://a.example.com:444", "https://b.example.com", "https://a.example.com:443"];
     Case { caller: b"https://a.example.com".into(), ..case(&ids) }.listed_at(2);
 }

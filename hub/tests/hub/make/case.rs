@@ -40,7 +40,7 @@ pub fn decision(random: &mut Random, wanted: usize) -> Case {
     let mut case = Case::default();
     let appid = appid(random, &plan, &host);
     let entries = list(random, &plan, &host, &mut case);
-    let caller = caller(random, &plan, &host, &entries);
+    let caller = caller(random, &plan, &host, &appid, &entries);
     case.appid = if plan.has(random, 2) {
         Vec::new()
     } else if plan.has(random, 1) {
@@ -98,6 +98,10 @@ fn list(random: &mut Random, plan: &Plan, host: &str, case: &mut Case) -> Vec<St
     let mut entries = list::entries(random, host);
     if plan.has(random, 4) {
         let listed = if random.chance(40) { native(random) } else { origin(random, &format!("www.{host}")) };
+        if let (Some(model::Facet::Web(web)), true) = (model::facet(listed.as_bytes()), random.chance(60)) {
+            let sibling = sibling(random, &web);
+            entries.insert(random.below(entries.len() + 1), sibling);
+        }
         entries.insert(random.below(entries.len() + 1), listed);
     }
     let selected = !plan.has(random, 112);
@@ -123,7 +127,7 @@ fn list(random: &mut Random, plan: &Plan, host: &str, case: &mut Case) -> Vec<St
 }
 
 /// A caller for the plan: the AppID's own, one of the list's, or another.
-fn caller(random: &mut Random, plan: &Plan, host: &str, entries: &[String]) -> Vec<u8> {
+fn caller(random: &mut Random, plan: &Plan, host: &str, appid: &[u8], entries: &[String]) -> Vec<u8> {
     let caller = if plan.has(random, 101) {
         let relative = relative(random, host);
         match random.below(4) {
@@ -134,7 +138,10 @@ fn caller(random: &mut Random, plan: &Plan, host: &str, entries: &[String]) -> V
     } else if plan.has(random, 1) {
         native(random)
     } else if plan.has(random, 3) {
-        origin(random, host)
+        match model::url(appid) {
+            Some(web) if random.chance(80) => sibling(random, &web),
+            _ => origin(random, host),
+        }
     } else if let (true, Some(entry)) = (plan.has(random, 4), listed(random, host, entries)) {
         match model::facet(entry.as_bytes()) {
             Some(model::Facet::Web(web)) => sibling(random, &web),

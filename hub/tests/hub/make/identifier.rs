@@ -27,8 +27,8 @@ fn https(random: &mut Random) -> &'static str {
 
 fn port(random: &mut Random) -> &'static str {
     random.pick(&[
-        "", "", "", "", "", "", ":443", ":443", ":443", ":444", ":8443", ":8444", ":1", ":9", ":80", ":9999",
-        ":10000", ":65535",
+        "", "", "", "", "", ":443", ":443", ":443", ":443", ":444", ":8443", ":8444", ":1", ":9", ":80",
+        ":9999", ":10000", ":65535",
     ])
 }
 
@@ -61,8 +61,8 @@ fn origin_with(random: &mut Random, host: &str, port: &str) -> String {
     format!("{}{host}{port}{slash}", https(random))
 }
 
-/// A web origin of the same host: mostly by the same port, where 443 may be written out or not, else by one that
-/// differs in a digit or by any.
+/// A web origin of the same host: mostly on the same port, where 443 may be written out or not, else on one that
+/// differs in a digit or on any.
 pub fn sibling(random: &mut Random, web: &Web) -> String {
     let host = String::from_utf8(web.host.clone()).expect("ASCII");
     let port = web.port.unwrap_or(443);

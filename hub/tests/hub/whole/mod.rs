@@ -9,7 +9,10 @@ use crate::{
         identifier::{bad_url, facet, relative, sibling, url},
         record::{record, spoil, Answer, Redirect},
     },
-    model::identifier::{self as model, Facet},
+    model::{
+        identifier::{self as model, Facet},
+        list::{selected, Judge},
+    },
     random::Random,
 };
 use facets_hub::{clean, decision_code, decision_code_with_place, fetch_location, Refusal};
@@ -66,13 +69,42 @@ fn decided(case: &Case, caller: &[u8]) -> (u16, Option<u32>) {
     (code, Some(place).filter(|_| code == 4))
 }
 
-/// Asserts that both bodies decide alike for these callers, and counts the answers.
-fn decide_alike(one: &Case, other: &Case, callers: &[Vec<u8>], codes: &mut BTreeMap<u16, usize>) {
-    for caller in callers {
-        let decision = decided(one, caller);
-        assert_eq!(decided(other, caller), decision, "{}\n{one:?}\n{other:?}", caller.escape_ascii());
-        *codes.entry(decision.0).or_default() += 1;
+/// Answers that were compared: how often each code, and how often a web caller was not listed beside a kept entry of
+/// its host, which stands on another port.
+#[derive(Debug, Default)]
+struct Answers {
+    codes: BTreeMap<u16, usize>,
+    other_port: usize,
+}
+
+impl Answers {
+    /// Asserts that both bodies decide alike for these callers, and counts the answers.
+    fn alike(&mut self, one: &Case, other: &Case, callers: &[Vec<u8>]) {
+        for caller in callers {
+            let decision = decided(one, caller);
+            assert_eq!(decided(other, caller), decision, "{}\n{one:?}\n{other:?}", caller.escape_ascii());
+            *self.codes.entry(decision.0).or_default() += 1;
+            self.other_port += usize::from(decision.0 == 114 && of_kept_host(one, caller));
+        }
     }
+
+    /// Asserts that each of these codes, and another port of a kept host, came up a thousand times.
+    fn often(&self, codes: &[u16]) {
+        for code in codes {
+            assert!(self.codes.get(code) >= Some(&1_000), "decisions {code}");
+        }
+        assert!(self.other_port >= 1_000, "callers on another port of a kept host");
+    }
+}
+
+/// Whether a kept entry has the web caller's host.
+fn of_kept_host(case: &Case, caller: &[u8]) -> bool {
+    let Some(Facet::Web(caller)) = model::facet(caller) else {
+        return false;
+    };
+    let entries = selected(&case.body, case.major, case.minor).expect("a list");
+    let kept = Judge { appid: &case.appid, table: &case.table }.kept(&entries);
+    kept.iter().any(|entry| matches!(entry, Facet::Web(web) if web.host.eq_ignore_ascii_case(&caller.host)))
 }
 
 /// What cleaning into a copy of these bytes gives, and the bytes afterwards.

@@ -1,7 +1,7 @@
 //! Accepted bodies with the same kept entries: every call gives the same on both. The label and the fetch
 //! location take no body; decision, cleaning and the tally's kept count are compared.
 
-use super::{callers, cleaned, decide_alike, fetched, output};
+use super::{callers, cleaned, fetched, output, Answers};
 use crate::{
     case::Case,
     hand::{body_of, case},
@@ -15,7 +15,6 @@ use crate::{
     random::Random,
 };
 use facets_hub::{tally, Refusal};
-use std::collections::BTreeMap;
 
 const ROUNDS: usize = 20_000;
 
@@ -86,7 +85,7 @@ fn kept_count(case: &Case) -> Result<u32, Refusal> {
 #[test]
 fn discarded_entries_and_all_else_in_a_body_change_nothing() {
     let mut random = Random::new(5);
-    let mut codes: BTreeMap<u16, usize> = BTreeMap::new();
+    let mut answers = Answers::default();
     let (mut cleanings, mut refused_cleanings) = (0, 0);
     let (mut causes, mut differences) = ([0; 5], [0; 5]);
     for _ in 0..ROUNDS {
@@ -120,7 +119,7 @@ fn discarded_entries_and_all_else_in_a_body_change_nothing() {
 
         let listed: Vec<&String> = one_body.entries.iter().chain(&other_body.entries).collect();
         let callers = callers(&mut random, &host, &listed);
-        decide_alike(&one, &other, &callers, &mut codes);
+        answers.alike(&one, &other, &callers);
 
         let length = one.cleaning().list().map_or(50, |list| list.len());
         let lengths = [
@@ -138,7 +137,7 @@ fn discarded_entries_and_all_else_in_a_body_change_nothing() {
         assert_eq!(kept_count(&one), kept_count(&other), "{one:?}\n{other:?}");
         assert!(kept_count(&one).map_or(true, |count| count as usize == kept.len()), "{one:?}");
     }
-    println!("{ROUNDS} pairs of bodies; decisions {codes:?}");
+    println!("{ROUNDS} pairs of bodies; {answers:?}");
     println!(
         "pairs unlike in discarded entries, version objects, other members, blanks, escapes: {differences:?}"
     );
@@ -146,9 +145,7 @@ fn discarded_entries_and_all_else_in_a_body_change_nothing() {
         "{cleanings} cleanings, {refused_cleanings} refused; discarded for causes 1 to 4: {:?}",
         &causes[1..]
     );
-    for code in [3, 4, 5, 101, 102, 104, 105, 106, 107, 108, 113, 114] {
-        assert!(codes.get(&code) >= Some(&1_000), "decisions {code}");
-    }
+    answers.often(&[3, 4, 5, 101, 102, 104, 105, 106, 107, 108, 113, 114]);
     assert!(differences.iter().all(|&count| count >= 5_000));
     assert!(cleanings - refused_cleanings >= 10_000 && causes[1..].iter().all(|&count| count >= 1_000));
 }
@@ -184,8 +181,9 @@ fn a_full_body_of_discarded_entries_changes_nothing() {
     let other = Case { body: full, ..one.clone() };
     let callers: Vec<Vec<u8>> =
         kept.iter().chain(&discarded).chain(&["https://x.example.com"]).map(|&entry| entry.into()).collect();
-    let mut codes = BTreeMap::new();
-    decide_alike(&one, &other, &callers, &mut codes);
+    let mut answers = Answers::default();
+    answers.alike(&one, &other, &callers);
+    let codes = answers.codes;
     assert_eq!(codes.keys().copied().collect::<Vec<_>>(), [4, 101, 114]);
     assert_eq!(codes[&4], kept.len());
     let length = one.cleaning().list().expect("a list").len();

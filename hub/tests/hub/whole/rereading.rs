@@ -1,6 +1,6 @@
 //! A cleaned list, read again as a body: every caller's decision and the cleaned bytes stay.
 
-use super::{callers, cleaned, decide_alike, fetched, output};
+use super::{callers, cleaned, fetched, output, Answers};
 use crate::{
     case::Case,
     make::case::{self, CLEANINGS},
@@ -8,7 +8,6 @@ use crate::{
     random::Random,
 };
 use facets_hub::{tally, Counts, Refusal};
-use std::collections::BTreeMap;
 
 const ROUNDS: usize = 30_000;
 
@@ -31,7 +30,7 @@ fn clean_again(random: &mut Random, case: &Case) {
 #[test]
 fn a_cleaned_list_decides_and_cleans_like_the_body_it_came_from() {
     let mut random = Random::new(6);
-    let mut codes: BTreeMap<u16, usize> = BTreeMap::new();
+    let mut answers = Answers::default();
     let (mut lists, mut changed, mut empty) = (0, 0, 0);
     for _ in 0..ROUNDS {
         let case = case::cleaning(&mut random, CLEANINGS.len() - 1);
@@ -58,11 +57,9 @@ fn a_cleaned_list_decides_and_cleans_like_the_body_it_came_from() {
         let entries = entries.into_iter().flat_map(|entries| entries.expect("a list"));
         let entries: Vec<String> = entries.filter_map(|entry| String::from_utf8(entry).ok()).collect();
         let callers = callers(&mut random, &host, &entries.iter().collect::<Vec<_>>());
-        decide_alike(&case, &again, &callers, &mut codes);
+        answers.alike(&case, &again, &callers);
     }
-    println!("{lists} cleaned lists, {changed} unlike their bodies, {empty} empty; decisions {codes:?}");
+    println!("{lists} cleaned lists, {changed} unlike their bodies, {empty} empty; {answers:?}");
     assert!(lists >= 10_000 && changed >= 10_000 && empty >= 1_000);
-    for code in [3, 4, 5, 101, 104, 105, 106, 107, 108, 114] {
-        assert!(codes.get(&code) >= Some(&1_000), "decisions {code}");
-    }
+    answers.often(&[3, 4, 5, 101, 104, 105, 106, 107, 108, 114]);
 }

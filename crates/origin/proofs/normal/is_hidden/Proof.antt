@@ -1,4 +1,4 @@
--- `origin::is_hidden` meets its contract. Assumes nothing.
+-- `origin::is_hidden` meets its contract.
 use Rattle.origin.proofs.Writings.{write-laws}
 use Rattle.origin.proofs.normal.is_hidden.Statement.{statement}
 use Rattle.origin.proofs.normal.is_hidden.Tie as tie

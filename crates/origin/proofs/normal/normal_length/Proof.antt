@@ -1,4 +1,4 @@
--- `origin::normal_length` meets its contract. Assumes nothing.
+-- `origin::normal_length` meets its contract.
 use Rattle.origin.proofs.Writings.{write-laws}
 use Rattle.origin.proofs.normal.normal_length.Statement.{statement}
 use Rattle.origin.proofs.normal.normal_length.Tie as tie

@@ -1,4 +1,4 @@
--- `origin::web_length` meets its contract. Assumes nothing.
+-- `origin::web_length` meets its contract.
 use Rattle.origin.proofs.Writings.{write-laws}
 use Rattle.origin.proofs.normal.web_length.Statement.{statement}
 use Rattle.origin.proofs.normal.web_length.Tie as tie

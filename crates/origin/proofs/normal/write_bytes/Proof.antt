@@ -1,4 +1,4 @@
--- `origin::write_bytes` meets its contract. Assumes nothing.
+-- `origin::write_bytes` meets its contract.
 use Prim.Native.Nat.{_-_}
 use lib.ListN.{length}
 use Rattle.origin.proofs.Writings.{Pasted}

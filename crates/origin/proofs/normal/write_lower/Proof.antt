@@ -1,4 +1,4 @@
--- `origin::write_lower` meets its contract. Assumes nothing.
+-- `origin::write_lower` meets its contract.
 use Prim.Native.Nat.{_-_}
 use lib.ListN.{length}
 use Rattle.ascii.specs.Ascii.{lower}

@@ -1,4 +1,4 @@
--- `origin::write_normal` meets its contract. Assumes nothing.
+-- `origin::write_normal` meets its contract.
 use Rattle.origin.proofs.Writings.{write-laws}
 use Rattle.origin.proofs.normal.write_normal.Statement.{statement}
 use Rattle.origin.proofs.normal.write_normal.Tie as tie

@@ -1,4 +1,4 @@
--- `origin::write_port` meets its contract. Assumes nothing.
+-- `origin::write_port` meets its contract.
 use Rattle.origin.proofs.Writings.{write-laws}
 use Rattle.origin.proofs.normal.write_port.Statement.{statement}
 use Rattle.origin.proofs.normal.write_port.Tie as tie

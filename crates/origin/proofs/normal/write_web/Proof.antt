@@ -1,4 +1,4 @@
--- `origin::write_web` meets its contract. Assumes nothing.
+-- `origin::write_web` meets its contract.
 use Rattle.origin.proofs.Writings.{write-laws}
 use Rattle.origin.proofs.normal.write_web.Statement.{statement}
 use Rattle.origin.proofs.normal.write_web.Tie as tie

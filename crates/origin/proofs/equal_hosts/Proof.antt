@@ -1,10 +1,10 @@
--- `origin::same_names` meets its contract.
+-- `origin::equal_hosts` meets its contract.
 use Rattle.origin.proofs.Laws.{laws, matching}
-use Rattle.origin.proofs.same_names.Statement.{statement}
-use Rattle.origin.proofs.same_names.Tie as tie
+use Rattle.origin.proofs.equal_hosts.Statement.{statement}
+use Rattle.origin.proofs.equal_hosts.Tie as tie
 
-pub same-names-spec : {M : Type 1} → statement M
-same-names-spec =
+pub equal-hosts-spec : {M : Type 1} → statement M
+equal-hosts-spec =
     tie.close
     (tie.spec
     {- sub-equal-no-case -}
