@@ -96,6 +96,20 @@ impl Library {
     }
 }
 
+/// Calls with slices, each of which passes as its pointer and its length, and with `= numbers`.
+macro_rules! call {
+    ($call:expr; [$($given:expr),*]) => {
+        // SAFETY: each pointer has its length, and what is lent outlives the call.
+        unsafe { $call($($given),*) }
+    };
+    ($call:expr; [$($given:expr),*] = $number:expr $(, $($more:tt)*)?) => {
+        call!($call; [$($given,)* $number] $($($more)*)?)
+    };
+    ($call:expr; [$($given:expr),*] $slice:ident $(, $($more:tt)*)?) => {
+        call!($call; [$($given,)* $slice.as_ptr(), $slice.len()] $($($more)*)?)
+    };
+}
+
 /// What a call answers: its numbers.
 type Answer = Vec<u32>;
 
@@ -105,98 +119,45 @@ struct Lent<'a> {
     caller: &'a str,
     appid: &'a str,
     record: &'a [u8],
+    text: &'a str,
     body: &'a str,
     table: &'a str,
 }
 
 impl Lent<'_> {
-    fn label(&self, library: &Library) -> Answer {
-        let (host, table) = (self.caller, self.table);
-        // SAFETY: each pointer has its length, and the slices outlive the call; so below.
-        vec![unsafe { (library.label)(host.as_ptr(), host.len(), table.as_ptr(), table.len()) }]
+    fn label(self, library: &Library) -> Answer {
+        let Lent { caller: host, table, .. } = self;
+        vec![call!(library.label; [] host, table)]
     }
 
-    fn decide(&self, library: &Library) -> Answer {
-        let Lent { caller, appid, record, body, table } = self;
+    fn decide(self, library: &Library) -> Answer {
+        let Lent { caller, appid, record, text, body, table } = self;
         let ((major, minor), mut place) = (VERSION, u32::MAX);
-        // SAFETY: as above; the place outlives the call.
-        let code = unsafe {
-            (library.decide)(
-                caller.as_ptr(),
-                caller.len(),
-                appid.as_ptr(),
-                appid.len(),
-                major,
-                minor,
-                record.as_ptr(),
-                record.len(),
-                "".as_ptr(),
-                0,
-                body.as_ptr(),
-                body.len(),
-                table.as_ptr(),
-                table.len(),
-                &mut place,
-            )
-        };
+        let code = call!(
+            library.decide;
+            [] caller, appid, = major, = minor, record, text, body, table, = &mut place
+        );
         vec![code.into(), place]
     }
 
-    fn locate(&self, library: &Library) -> Answer {
-        let Lent { caller, appid, record, .. } = self;
-        // SAFETY: as above.
-        let Fields(location) = unsafe {
-            (library.locate)(
-                caller.as_ptr(),
-                caller.len(),
-                appid.as_ptr(),
-                appid.len(),
-                record.as_ptr(),
-                record.len(),
-                "".as_ptr(),
-                0,
-            )
-        };
+    fn locate(self, library: &Library) -> Answer {
+        let Lent { caller, appid, record, text, .. } = self;
+        let Fields(location) = call!(library.locate; [] caller, appid, record, text);
         location.into()
     }
 
-    fn clean(&self, library: &Library, out: &mut [u8]) -> Answer {
+    fn clean(self, library: &Library, out: &mut [u8]) -> Answer {
         let Lent { appid, body, table, .. } = self;
         let (major, minor) = VERSION;
-        // SAFETY: as above; the output is lent for the call alone.
-        let Fields(cleaned) = unsafe {
-            (library.clean)(
-                appid.as_ptr(),
-                appid.len(),
-                major,
-                minor,
-                body.as_ptr(),
-                body.len(),
-                table.as_ptr(),
-                table.len(),
-                out.as_mut_ptr(),
-                out.len(),
-            )
-        };
+        let (to, room) = (out.as_mut_ptr(), out.len());
+        let Fields(cleaned) = call!(library.clean; [] appid, = major, = minor, body, table, = to, = room);
         cleaned.into()
     }
 
-    fn tally(&self, library: &Library) -> Answer {
+    fn tally(self, library: &Library) -> Answer {
         let Lent { appid, body, table, .. } = self;
         let (major, minor) = VERSION;
-        // SAFETY: as above.
-        let Fields(counts) = unsafe {
-            (library.tally)(
-                appid.as_ptr(),
-                appid.len(),
-                major,
-                minor,
-                body.as_ptr(),
-                body.len(),
-                table.as_ptr(),
-                table.len(),
-            )
-        };
+        let Fields(counts) = call!(library.tally; [] appid, = major, = minor, body, table);
         counts.into()
     }
 }
@@ -243,7 +204,7 @@ impl Rows {
 
     /// What is decided without a list, and labels.
     fn short(&mut self, table: &str) {
-        let answered = Lent { caller: "", appid: "", record: &[2, 0, 200, 1], body: "", table };
+        let answered = Lent { caller: "", appid: "", record: &[2, 0, 200, 1], text: "", body: "", table };
         let app = "ios:bundle-id:com.acme.app";
         let url = "https://www.example.com:8443/appID";
         for (name, caller, appid) in [
@@ -267,8 +228,14 @@ impl Rows {
 
     fn list(&mut self, (table, text): (&str, &str), owner: &str, body: &Body) {
         let appid = format!("https://www.{owner}/appID");
-        let answered =
-            Lent { caller: "", appid: &appid, record: &[2, 0, 200, 1], body: &body.text, table: text };
+        let answered = Lent {
+            caller: "",
+            appid: &appid,
+            record: &[2, 0, 200, 1],
+            text: "",
+            body: &body.text,
+            table: text,
+        };
         let name = |call: &str| format!("{table}, {}, {call}", body.name);
         let web = |start: &str| format!("https://{start}.{owner}");
         for (call, caller) in [
