@@ -67,8 +67,7 @@ fn pair(caller: &[u8], entry: &[u8]) {
     says(origin::matches(caller, entry), caller, entry);
 }
 
-pub fn callers() {
-    pair(b"https://a.b", b"HTTPS://A.B/");
+pub fn ports() {
     pair(b"https://a.b", b"https://a.b:443/");
     pair(b"https://a.b:443", b"https://a.b");
     pair(b"https://a.b:443", b"https://a.b:443");
@@ -79,6 +78,10 @@ pub fn callers() {
     pair(b"https://a.b:99", b"https://a.b:999");
     pair(b"https://a.b:699", b"https://a.b:443");
     pair(b"https://a.b:65535", b"https://a.b:65535");
+}
+
+pub fn callers() {
+    pair(b"https://a.b", b"HTTPS://A.B/");
     pair(b"https://a.b:99", b"https://a.c:99");
     pair(b"https://a.b", b"https://a.c");
     pair(b"https://b", b"https://a.b");

@@ -166,6 +166,7 @@ fn main() {
     long_urls();
     forms::normal_forms();
     forms::rooms();
+    forms::ports();
     forms::callers();
     forms::same_hosts();
 }
