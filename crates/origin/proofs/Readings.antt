@@ -31,11 +31,11 @@ no-part : (s : Bytes) (end : ℕ) → part s (end + 1) end ≡ []
 unfolding part
 no-part s end = let z : end - (end + 1) ≡ 0 = omega arith in rw z
 
-pub port-absent : (s : Bytes) (end n : ℕ) → HostEnd s end → n ≡ 443 → Reads s (some (withoutPort s end)) (Found (record { end = end; port = n; tail = end }))
+pub port-absent : (s : Bytes) (end n tail : ℕ) → HostEnd s end → n ≡ 443 → tail ≡ end → Reads s (some (withoutPort s end)) (Found (record { end = end; port = n; tail = tail }))
 unfolding authorityIn effectivePort
-port-absent s end n H e = record {
-  is = rw (no-part s end);
-  places = within {p = record { end = end; port = n; tail = end }} (record { low = H .low; middle = omega arith; high = H .high; colon = λ l. absurd (omega arith); port-is = rw (no-part s end) e });
+port-absent s end n tail H e t = record {
+  is = rw (t, no-part s end);
+  places = within {p = record { end = end; port = n; tail = tail }} (record { low = H .low; middle = omega arith; high = omega (arith, H .high, t); colon = λ l. absurd (omega arith); port-is = rw (t, no-part s end) e });
 }
 
 module _ (s : Bytes) (end : ℕ) {q : Reading} (R : Reads s (some (withoutPort s end)) q) where
