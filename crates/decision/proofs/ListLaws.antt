@@ -42,29 +42,27 @@ use Rattle.decision.specs.declared.Match.the-variants.{At as MatchAt, No
 use Rattle.decision.specs.declared.Location.{Location}
 use Rattle.decision.specs.declared.Location.the-variants.{Nothing, AppId, Text}
 
--- ---- the place
-
-module _ (m : Match) where
-  pub match-some : {n : ℕ} → m ≡ MatchAt n → answerOf (Rule4 n) ≡ byPlace (matchOf m)
-  unfolding answerOf matchOf
-  match-some e = rw e
-
-  pub match-none : m ≡ Nowhere → answerOf (Refused NotListed) ≡ byPlace (matchOf m)
-  unfolding answerOf matchOf
-  match-none e = rw e
-
 -- ---- the ids
 
 module _ (caller appid : Bytes) {end : ℕ} (table : Bytes) (es : List Bytes) {w : AppOwner} (O : OwnedBy appid end table w) where
   pub ids-bad : w ≡ NoTable → answerOf (Refused BadTable) ≡ byEntries caller appid table es
   ids-bad h = unfold answerOf byEntries in (rw (no-table O h))
 
-  pub ids-matched : {o : Owner} (m : Match) (r : Answer) → w ≡ Is o → matchOf m ≡ firstMatch caller (kept appid table es) → answerOf r ≡ byPlace (matchOf m) → answerOf r ≡ byEntries caller appid table es
-  ids-matched m r h e f = f ∙ ap byPlace e ∙ by (readTable table) refl (some-table O h)
-    where
-      by : (o : Option (List Rule)) → readTable table ≡ o → isNone o ≡ false → byPlace (firstMatch caller (kept appid table es)) ≡ byEntries caller appid table es
-      by none t n = let z : _≡_ {A = ℕ} 0 1 = cc in absurd (omega arith)
-      by (some rs) t n = unfold byEntries in (rw t)
+  module _ {o : Owner} (m : Match) (h : w ≡ Is o) (e : matchOf m ≡ firstMatch caller (kept appid table es)) where
+    by-match : byPlace (matchOf m) ≡ byEntries caller appid table es
+    by-match = ap byPlace e ∙ by (readTable table) refl (some-table O h)
+      where
+        by : (o : Option (List Rule)) → readTable table ≡ o → isNone o ≡ false → byPlace (firstMatch caller (kept appid table es)) ≡ byEntries caller appid table es
+        by none t n = let z : _≡_ {A = ℕ} 0 1 = cc in absurd (omega arith)
+        by (some rs) t n = unfold byEntries in (rw t)
+
+    pub ids-match : {n : ℕ} → m ≡ MatchAt n → answerOf (Rule4 n) ≡ byEntries caller appid table es
+    unfolding answerOf matchOf
+    ids-match k = rw k at by-match
+
+    pub ids-no-match : m ≡ Nowhere → answerOf (Refused NotListed) ≡ byEntries caller appid table es
+    unfolding answerOf matchOf
+    ids-no-match k = rw k at by-match
 
 -- ---- refusals 7 to 13
 

@@ -15,7 +15,7 @@ ghost use Rattle.entries.specs.code.Owner.{HostEnds, Owned};
 ghost use Rattle.entries.specs.code.Reading.{IdsThere, entriesAt};
 ghost use Rattle.fetch_record.specs.Record.{lastHop};
 ghost use Rattle.fetch_record.specs.code.Meaning.{answerOf as responseOf};
-ghost use Rattle.decision.specs.Decide.{firstMatch, byPlace, byList, decide, listDue};
+ghost use Rattle.decision.specs.Decide.{firstMatch, byList, decide, listDue};
 ghost use Rattle.decision.specs.Location.{fetchFrom, fetchLocation, sourceFrom, fetchSource};
 ghost use Rattle.decision.specs.code.Meaning.{answerOf, Before, matchOf, byEntries, Locates};
 
@@ -114,15 +114,6 @@ fn first_match(
     }
 }
 
-fn by_match(m: Match) -> Answer
-    ensures { λ r. ⌜ answerOf r ≡ byPlace (matchOf m) ⌝ }
-{
-    match m {
-        Match::At(n) => Answer::Rule4(n),
-        Match::Nowhere => Answer::Refused(Refusal::NotListed),
-    }
-}
-
 // Refusal 13, rule 4 or refusal 14, for the ids at a place and the AppID whose host ends at a place.
 fn by_ids(caller: &[u8], appid: &[u8], end: usize, body: &[u8], ids: usize, table: &[u8]) -> Answer
     requires { ⌜ HostEnds (now appid) end × IdsThere (now body) ids ⌝ }
@@ -130,10 +121,10 @@ fn by_ids(caller: &[u8], appid: &[u8], end: usize, body: &[u8], ids: usize, tabl
 {
     match entries::find_owner(appid, end, table) {
         AppOwner::BadTable => Answer::Refused(Refusal::BadTable),
-        AppOwner::Is(owner) => {
-            let m = first_match(caller, appid, owner, body, ids, table);
-            by_match(m)
-        }
+        AppOwner::Is(owner) => match first_match(caller, appid, owner, body, ids, table) {
+            Match::At(n) => Answer::Rule4(n),
+            Match::Nowhere => Answer::Refused(Refusal::NotListed),
+        },
     }
 }
 

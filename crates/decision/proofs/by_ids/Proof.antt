@@ -15,9 +15,13 @@ by-ids-spec =
     (λ c. search laws)
     {- first-match-requires -}
     (λ c κs. search laws)
-    {- by-match-requires -}
-    (λ c κs. search laws)
+    {- enum-known-n -}
+    (λ c. search laws)
+    {- enum-told-2 -}
+    (λ c. search laws)
     {- returns -}
     (λ c. search laws)
     {- returns-2 -}
+    (λ c. search laws)
+    {- returns-3 -}
     (λ c. search laws))
