@@ -26,6 +26,13 @@ abbrev pub isNone {ℓ} : {A : Type ℓ} → Option A → Bool
 isNone none = true
 isNone (some a) = false
 
+-- two optional values that are both there and pass a test together
+abbrev pub bothPass {ℓ} : {A : Type ℓ} → (A → A → Bool) → Option A → Option A → Bool
+bothPass p none none = false
+bothPass p none (some b) = false
+bothPass p (some a) none = false
+bothPass p (some a) (some b) = p a b
+
 -- a where the test holds
 infix 12 _when_
 abbrev pub _when_ {ℓ} : {A : Type ℓ} → A → Bool → Option A

@@ -4,7 +4,7 @@ use mathlib.Core.Bool.{Bool, false, _||_, not}
 use mathlib.Core.Option.{Option, none, some}
 use lib.ListN.{length}
 use lib.Dec.{ltb}
-use Rattle.ascii.specs.Ascii.{Bytes, if_then_else_, isNone, filterBy, sameNoCase}
+use Rattle.ascii.specs.Ascii.{Bytes, if_then_else_, isNone, bothPass, filterBy, sameNoCase}
 use Rattle.suffix.specs.Suffix.{privateLabel}
 use Rattle.origin.specs.Origin.{Authority, beginsHttps, beginsNative, webOrigin, isFacet}
 use Rattle.entries.specs.AppId.{appLabel}
@@ -13,10 +13,7 @@ use Rattle.entries.specs.declared.Cause.the-variants.{TooLong, OtherSche
 
 -- both exist and are equal
 unfoldable pub labelsAgree : Option Bytes → Option Bytes → Bool
-labelsAgree none none = false
-labelsAgree none (some m) = false
-labelsAgree (some l) none = false
-labelsAgree (some l) (some m) = sameNoCase l m
+labelsAgree = bothPass sameNoCase
 
 -- a web origin, where its host or the AppID's has no private label or the two labels are unequal
 unfoldable pub isOtherLabel : Bytes → Bytes → Option Authority → Bool

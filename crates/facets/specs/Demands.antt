@@ -1,5 +1,5 @@
--- Demands 2 and 3 as claims about document 01's definitions, each said once. A reviewer can open this file first; proofs/Demands.antt
--- proves every claim. The exports (src/lib.rt) promise that they answer as these definitions.
+-- Demands 2 and 3 as claims about document 01's definitions (document 01 as the requests so far change it), each said once. A reviewer
+-- can open this file first; proofs/Demands.antt proves every claim. The exports (src/lib.rt) promise that they answer as these definitions.
 use mathlib.Core.Path.{_≡_}
 use mathlib.Core.List.{List, [], _∷_}
 use mathlib.Core.Option.{some}

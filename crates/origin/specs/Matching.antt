@@ -1,17 +1,14 @@
 -- When a caller matches the AppID or an entry (document 01, "Fetch record and decision", rules 3 and 4).
-use mathlib.Core.Bool.{Bool, _&&_, false}
-use mathlib.Core.Option.{Option, none, some}
+use mathlib.Core.Bool.{Bool, _&&_}
+use mathlib.Core.Option.{Option}
 use Prim.Native.Nat.{ℕ}
 use lib.Dec.{eqb}
-use Rattle.ascii.specs.Ascii.{Bytes, if_then_else_, isNone, isEmpty, same, sameNoCase, value}
+use Rattle.ascii.specs.Ascii.{Bytes, if_then_else_, isNone, bothPass, isEmpty, same, sameNoCase, value}
 use Rattle.origin.specs.Origin.{Authority, webOrigin}
 
 -- rule 3: both have a host, and the two are equal, ports aside
 unfoldable pub sameHost : Option Authority → Option Authority → Bool
-sameHost none none = false
-sameHost none (some b) = false
-sameHost (some a) none = false
-sameHost (some a) (some b) = sameNoCase (a .host) (b .host)
+sameHost = bothPass (λ a b. sameNoCase (a .host) (b .host))
 
 -- a port's digits by their value, an absent port being 443
 unfoldable pub effectivePort : Bytes → ℕ
@@ -19,10 +16,7 @@ effectivePort p = if isEmpty p then 443 else value p
 
 -- origins in the sense of RFC 6454: both are web origins, and their hosts and ports are equal
 unfoldable pub sameOrigin : Option Authority → Option Authority → Bool
-sameOrigin none none = false
-sameOrigin none (some b) = false
-sameOrigin (some a) none = false
-sameOrigin (some a) (some b) = sameNoCase (a .host) (b .host) && eqb (effectivePort (a .port)) (effectivePort (b .port))
+sameOrigin = bothPass (λ a b. sameNoCase (a .host) (b .host) && eqb (effectivePort (a .port)) (effectivePort (b .port)))
 
 -- rule 4: native in bytes, web by host and port
 unfoldable pub facetMatches : Bytes → Bytes → Bool
