@@ -1,18 +1,36 @@
 -- Tests over whole lists, and parts of them. Assumes nothing.
 use mathlib.Core.Path.{_≡_, refl, sym, _∙_}
 use mathlib.Core.List.{List, [], _∷_, _++_, map}
-use mathlib.Core.Bool.{Bool, true, false, and-eq-true-iff}
+use mathlib.Core.Bool.{Bool, true, false, _&&_, and-eq-true-iff}
 use Prim.Native.Nat.{ℕ, _-_, _<_, _≤_}
 use native.Mathlib.Omega.{arith}
-use lib.ListN.{length, take, drop, length-drop, drop-of-length-le}
+use lib.ListN.{length, take, drop, length-drop, drop-of-length-le, take-append-drop}
 use lib.Seq.{take-all, take-nil}
 use Rattle.ascii.specs.Ascii.{Bytes, if_then_else_, all, filterBy}
 
 module _ {A : Type 0} (p : A → Bool) where
-  pub all-append : (x y : List A) → all p x ≡ true → all p y ≡ true → all p (x ++ y) ≡ true
+  pub all-both : (x y : List A) → all p (x ++ y) ≡ (all p x && all p y)
   unfolding all
-  all-append [] y e h = h
-  all-append (a ∷ x) y e h = let q = and-eq-true-iff (p a) (all p x) .0 e in rw (q .0, all-append x y (q .1) h)
+  all-both [] y = refl
+  all-both (a ∷ x) y = go (p a) (all-both x y)
+    where
+      go : (u : Bool) → all p (x ++ y) ≡ (all p x && all p y) → (u && all p (x ++ y)) ≡ ((u && all p x) && all p y)
+      go true ih = ih
+      go false ih = refl
+
+  pub all-append : (x y : List A) → all p x ≡ true → all p y ≡ true → all p (x ++ y) ≡ true
+  all-append x y e h = rw (all-both x y, e, h)
+
+  -- what passes a test passes a weaker one
+  pub all-weaker : (q : A → Bool) → ((x : A) → p x ≡ true → q x ≡ true) → (l : List A) → all p l ≡ true → all q l ≡ true
+  unfolding all
+  all-weaker q h [] e = refl
+  all-weaker q h (x ∷ l) e = let k = and-eq-true-iff (p x) (all p l) .0 e in rw (h x (k .0), all-weaker q h l (k .1))
+
+  pub all-drop : (n : ℕ) (l : List A) → all p l ≡ true → all p (drop n l) ≡ true
+  all-drop n l e =
+      let h : (all p (take n l) && all p (drop n l)) ≡ true = sym (rw take-append-drop at (all-both (take n l) (drop n l))) ∙ e in
+      and-eq-true-iff (all p (take n l)) (all p (drop n l)) .0 h .1
 
   -- what passes a test passes it
   pub filter-all : (l : List A) → all p (filterBy p l) ≡ true

@@ -81,6 +81,10 @@ dropWhile p (x ∷ xs) = if p x then dropWhile p xs else x ∷ xs
 unfoldable pub lastOf {ℓ} : {A : Type ℓ} → ℕ → List A → List A
 lastOf n l = drop (length l - n) l
 
+-- an output afterwards whose first bytes are written: what a call does not write in it remains
+abbrev pub writtenOver : Bytes → Bytes → Bytes
+writtenOver x before = x ++ drop (length x) before
+
 -- the parts between the bytes d: one more than there are such bytes
 unfoldable pub joinHead : ℕ → List Bytes → List Bytes
 joinHead b [] = (b ∷ []) ∷ []

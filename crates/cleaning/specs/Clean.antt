@@ -4,9 +4,9 @@ use mathlib.Core.Bool.{not}
 use mathlib.Core.Option.{Option, none, some}
 use Prim.Native.Nat.{ℕ}
 use Prim.Native.Char.{code}
-use lib.ListN.{length, drop}
+use lib.ListN.{length}
 use lib.Dec.{ltb}
-use Rattle.ascii.specs.Ascii.{Bytes, if_then_else_, _when_, _orElse_, isNone, text, joinWith, decimal}
+use Rattle.ascii.specs.Ascii.{Bytes, if_then_else_, _when_, _orElse_, isNone, writtenOver, text, joinWith, decimal}
 use Rattle.suffix.specs.Suffix.{readTable}
 use Rattle.origin.specs.Origin.{beginsHttps, normalForm}
 use Rattle.refusals.specs.declared.Refusal.{Refusal}
@@ -68,4 +68,4 @@ cleanedLength (cleaned list) = length list
 -- the output's bytes after the call: bytes beyond the list's length remain, and a refusal changes none
 abbrev pub outputAfter : Bytes → Cleaned → Bytes
 outputAfter before (notCleaned r) = before
-outputAfter before (cleaned list) = list ++ drop (length list) before
+outputAfter before (cleaned list) = writtenOver list before

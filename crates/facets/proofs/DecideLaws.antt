@@ -7,7 +7,7 @@ use mir.Syntax.{w16, w32}
 use mir.Val.{Fits}
 use Rattle.ascii.specs.Ascii.{Bytes}
 use Rattle.refusals.specs.declared.Refusal.{Refusal}
-use Rattle.refusals.specs.declared.Refusal.the-variants.{Stranger, BadAppId, ForeignAppId, BadRecord, OpenRedirect, BadLocation, NotFetched, WrongType, LongList, Unreadable, Misshapen, NoVersion, BadTable, NotListed, Full}
+use Rattle.refusals.specs.declared.Refusal.the-variants.{Stranger, BadAppId, ForeignAppId, BadRecord, OpenRedirect, BadLocation, NotFetched, WrongType, LongList, Unreadable, Misshapen, NoVersion, BadTable, NotListed, Full, BadHead}
 use Rattle.refusals.specs.Number.{refusalNumber}
 use Rattle.origin.specs.Origin.{Authority, webOrigin}
 use Rattle.decision.specs.Answer.{Answer as Given, rule1, rule2, rule3, rule4, fetch, refused, answerNumber}
@@ -24,7 +24,7 @@ use Rattle.facets.specs.code.Places.{SmallPlace}
 
 -- ---- the number
 
-refusal-small : (r : Refusal) → refusalNumber r ≤ 15
+refusal-small : (r : Refusal) → refusalNumber r ≤ 16
 refusal-small Stranger = omega arith
 refusal-small BadAppId = omega arith
 refusal-small ForeignAppId = omega arith
@@ -40,6 +40,7 @@ refusal-small NoVersion = omega arith
 refusal-small BadTable = omega arith
 refusal-small NotListed = omega arith
 refusal-small Full = omega arith
+refusal-small BadHead = omega arith
 
 pub refusal-fits : (x : Refusal) (n : ℕ) → n ≡ refusalNumber x → Fits w16 (100 + n)
 refusal-fits x n e = record { fits = omega (arith, refusal-small x) }

@@ -1,4 +1,4 @@
--- Demands 2 and 3, as specs/Demands.antt claims them. Assumes nothing.
+-- The claims of specs/Demands.antt. Assumes nothing.
 use mathlib.Core.Path.{_≡_, refl, sym, ap, _∙_}
 use mathlib.Core.List.{List, [], _∷_}
 use mathlib.Core.Option.{Option, none, some}
@@ -19,8 +19,9 @@ use Rattle.cleaning.proofs.Padding.{padding-clean, padding-length, padding-outp
 use Rattle.cleaning.proofs.Twice.{clean-twice}
 use Rattle.cleaning.proofs.ListLaws.{taken}
 use Rattle.tally.proofs.TallyTotal.{tally-total}
+use Rattle.head_items.proofs.ReadBackLaws.{read-back, read-back-all}
 use Rattle.facets.specs.Cleanings.{cleanNumber}
-use Rattle.facets.specs.Demands.{Padding, Inserted, neither, both, inserted, Insertions, Owners, Locating, Rereading, Recleaning, Totals}
+use Rattle.facets.specs.Demands.{Padding, Inserted, neither, both, inserted, Insertions, Owners, Locating, Rereading, Recleaning, Totals, ReadingBack, RecordOfHeads}
 use Rattle.facets.proofs.Rereading.{re-reading}
 
 pub padding : Padding
@@ -100,3 +101,9 @@ recleaning appid major minor body table before list e other =
 
 pub totals : Totals
 totals = tally-total
+
+pub reading-back : ReadingBack
+reading-back = read-back
+
+pub record-of-heads : RecordOfHeads
+record-of-heads lent starts redirects answers items end R A h = read-back-all R A h

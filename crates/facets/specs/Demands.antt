@@ -1,12 +1,14 @@
--- Demands 2 and 3 as claims about document 01's definitions (document 01 as the requests so far change it), each said once. A reviewer
--- can open this file first; proofs/Demands.antt proves every claim. The exports (src/lib.rt) promise that they answer as these definitions.
+-- Demands 2 and 3, and what the requests of document 02 ask to be shown, as claims about the definitions (document 01 as the requests so far change it), each said
+-- once. A reviewer can open this file first; proofs/Demands.antt proves every claim. The exports (src/lib.rt) promise that they answer as these definitions.
 use mathlib.Core.Path.{_≡_}
-use mathlib.Core.List.{List, [], _∷_}
+use mathlib.Core.List.{List, [], _∷_, _++_}
 use mathlib.Core.Option.{some}
-use Prim.Native.Nat.{ℕ}
+use Prim.Native.Nat.{ℕ, _≤_}
 use lib.ListN.{length}
 use Rattle.ascii.specs.Ascii.{Bytes}
 use Rattle.origin.specs.Origin.{Authority, webOrigin}
+use Rattle.response_head.specs.ResponseHead.{Head}
+use Rattle.head_items.specs.ReadBack.{HoldsLocation, Item, startsOf, RedirectItems, AnswerItem, ReadsBack}
 use Rattle.trusted_list.specs.TrustedList.{entries, Accepted}
 use Rattle.entries.specs.Causes.{cause}
 use Rattle.entries.specs.SameKept.{SameKept}
@@ -86,3 +88,16 @@ Recleaning =
 -- the counts add up to the number of selected entries
 abbrev pub Totals : Type 0
 Totals = (appid : Bytes) (major minor : ℕ) (body table : Bytes) (c : Counts) → tally appid major minor body table ≡ tallied c → total c ≡ length (entries major minor body)
+
+-- ---- document 02, S-2: response heads and the record reader
+
+-- one head, not refused: where the lent text holds its Location at that start, the record reader reads back just what the head says
+abbrev pub ReadingBack : Type 0
+ReadingBack = (start : ℕ) (h : Head) (item lent : Bytes) → Item start h item → HoldsLocation lent start h → ReadsBack item lent (startsOf start h) (h ∷ [])
+
+-- a record put together from up to 8 redirect heads and at most one answer head, none refused, over one text that holds every Location at its item's start,
+-- is read as these heads in order
+abbrev pub RecordOfHeads : Type 0
+RecordOfHeads =
+    (lent : Bytes) (starts : List ℕ) (redirects answers : List Head) (items end : Bytes) → RedirectItems lent starts redirects items → AnswerItem answers end
+    → length redirects ≤ 8 → ReadsBack (items ++ end) lent starts (redirects ++ answers)

@@ -2,5 +2,6 @@ pub mod Promises
 pub mod Located
 pub mod Cleanings
 pub mod TallyFields
+pub mod HeadFields
 pub mod Demands
 pub mod code

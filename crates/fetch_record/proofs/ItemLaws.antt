@@ -17,10 +17,10 @@ use Rattle.fetch_record.specs.declared.item.AnswerBody.the-variants.{Ans
 
 -- ---- kind 1
 
-pub fields-are : (s : Bytes) {a b : ℕ} → a ≡ getD s 3 0 * 256 + getD s 4 0 → b ≡ getD s 5 0 * 256 + getD s 6 0
-    → redirectOf (record { authorized = eqb (getD s 2 0) 1; start = a; size = b }) ≡ redirectIn s
+pub fields-are : (s : Bytes) {q a b : ℕ} → q ≡ getD s 0 0 * 256 + getD s 1 0 → a ≡ getD s 3 0 * 256 + getD s 4 0 → b ≡ getD s 5 0 * 256 + getD s 6 0
+    → redirectOf (record { status = q; authorized = eqb (getD s 2 0) 1; start = a; size = b }) ≡ redirectIn s
 unfolding redirectOf redirectIn number
-fields-are s e f = rw (e, f)
+fields-are s g e f = rw (g, e, f)
 
 pub redirect-short : (s : Bytes) → length s < 7 → redirectRead NoRedirectBody ≡ readRedirect s
 unfolding redirectRead readRedirect
@@ -63,7 +63,7 @@ number-take s n k h = rw (getD-take n s k 0 (omega arith), getD-take n s (k + 1)
 
 pub body-fields : (s : Bytes) → redirectIn (take 7 s) ≡ redirectIn s
 unfolding redirectIn
-body-fields s = rw (number-take s 7 3 (omega arith), number-take s 7 5 (omega arith), getD-take 7 s 2 0 (omega arith))
+body-fields s = rw (number-take s 7 0 (omega arith), number-take s 7 3 (omega arith), number-take s 7 5 (omega arith), getD-take 7 s 2 0 (omega arith))
 
 pub body-read : (s : Bytes) → 7 ≤ length s → readRedirect (take 7 s) ≡ readRedirect s
 unfolding readRedirect

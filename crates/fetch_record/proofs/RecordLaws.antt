@@ -65,7 +65,7 @@ module _ (s : Bytes) (l : length s ≡ 4) where
 
 -- ---- redirects put before what else was read
 
-behind-nil : (o : Option Fetched) → behind [] o ≡ o
+pub behind-nil : (o : Option Fetched) → behind [] o ≡ o
 unfolding behind
 behind-nil none = refl
 behind-nil (some f) = refl

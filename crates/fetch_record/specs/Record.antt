@@ -12,6 +12,7 @@ use Rattle.refusals.specs.declared.Refusal.the-variants.{OpenRedirect, BadLocat
 
 -- kind 1: its Location is so many bytes of the lent text from a start on
 pub record Redirect : Type 0 where
+  pub status : ℕ
   pub authorized : Bool
   pub start : ℕ
   pub size : ℕ
@@ -36,7 +37,7 @@ number s at = getD s at 0 * 256 + getD s (at + 1) 0
 unfoldable pub readRedirect : Bytes → Option Redirect
 readRedirect s =
     if leb 7 (length s) && between 300 399 (number s 0) && leb (getD s 2 0) 1
-    then some (record { authorized = eqb (getD s 2 0) 1; start = number s 3; size = number s 5 })
+    then some (record { status = number s 0; authorized = eqb (getD s 2 0) 1; start = number s 3; size = number s 5 })
     else none
 
 -- the body of kind 2, 3 bytes: status, right content type seen (0 or 1)

@@ -5,8 +5,9 @@ ghost use lib.ListN.{length};
 ghost use Rattle.fetch_record.specs.Record.{readRedirect, readAnswer};
 ghost use Rattle.fetch_record.specs.code.Meaning.{redirectOf, redirectRead, answerRead, redirectIn};
 
-// Kind 1, redirect: whether the authorized header was seen, and where its Location stands in the lent text.
+// Kind 1, redirect: its status, whether the authorized header was seen, and where its Location stands in the lent text.
 pub struct Redirect {
+    pub status: u16,
     pub authorized: bool,
     pub start: u16,
     pub size: u16,
@@ -49,6 +50,7 @@ pub(crate) fn redirect_in(s: &[u8]) -> Redirect
     let start = big_endian(s[3], s[4]);
     let size = big_endian(s[5], s[6]);
     Redirect {
+        status: big_endian(s[0], s[1]),
         authorized: s[2] == 1,
         start,
         size,

@@ -7,10 +7,10 @@ use Prim.Native.Nat.{ℕ, _≤_, _<_}
 use native.Mathlib.Omega.{arith}
 use lib.ListN.{length, drop}
 use lib.Dec.{T, eqb, leb}
-use borrow.Author.Tests.{leb-true, leb-false, lt-leb, ne-eqb}
+use borrow.Author.Tests.{ne-eqb}
 use Rattle.ascii.specs.Ascii.{Bytes, if_then_else_, isEmpty, all, between, isDigit, isUpper, isLetter, same, lower, beginsWith, text}
-use Rattle.ascii.proofs.Bytes.{each}
-use Rattle.ascii.proofs.ListLaws.{all-append}
+use Rattle.ascii.proofs.Bytes.{implies, each, passes, digit-small, letter-small}
+use Rattle.ascii.proofs.ListLaws.{all-append, all-weaker}
 use Rattle.suffix.specs.Host.{isLabelByte}
 use Rattle.origin.specs.Origin.{Authority, androidPrefix, iosPrefix, isPort, isHostByte, webOrigin, isKeyHashByte, isAndroid, isIos, isNative, isFacet, shownPort, normalWeb, normalForm}
 use Rattle.origin.specs.code.Normals.{isPlainByte}
@@ -19,59 +19,26 @@ use Rattle.origin.proofs.NormalForms.{own-normal, web-normal, lower-byt
 
 -- ---- one byte
 
-implies : Bool → Bool → Bool
-implies true b = b
-implies false b = true
-
--- f implies g at every byte, by computation, and f holds of nothing else
-passes : (f g : ℕ → Bool) → ((b : ℕ) → b < 256 → T (implies (f b) (g b))) → ((b : ℕ) → 256 ≤ b → f b ≡ false) → (b : ℕ) → f b ≡ true → g b ≡ true
-unfolding implies
-passes f g h k b e = go (leb 256 b) refl
-  where
-    told : (u v : Bool) → u ≡ true → T (implies u v) → v ≡ true
-    told true true p t = refl
-    told true false p t = absurd t
-    told false v p t = let z : _≡_ {A = ℕ} 0 1 = cc in absurd (omega arith)
-
-    go : (u : Bool) → leb 256 b ≡ u → g b ≡ true
-    go true p = let q : f b ≡ false = k b (leb-true 256 b p) in let z : _≡_ {A = ℕ} 0 1 = cc in absurd (omega arith)
-    go false p = told (f b) (g b) e (h b (leb-false 256 b p))
-
 module _ (b : ℕ) (h : 256 ≤ b) where
-  digit-small : isDigit b ≡ false
-  unfolding isDigit
-  digit-small = rw (lt-leb b 57 (omega arith)) (and-false (leb 48 b))
-
-  letter-small : isLetter b ≡ false
-  unfolding isLetter isUpper
-  letter-small = rw (lt-leb b 122 (omega arith), lt-leb b 90 (omega arith), and-false (leb 97 b), and-false (leb 65 b))
-
   key-small : isKeyHashByte b ≡ false
   unfolding isKeyHashByte
-  key-small = rw (letter-small, digit-small, ne-eqb b 43 (λ e. omega arith), ne-eqb b 47 (λ e. omega arith))
+  key-small = rw (letter-small b h, digit-small b h, ne-eqb b 43 (λ e. omega arith), ne-eqb b 47 (λ e. omega arith))
 
   host-small : isHostByte b ≡ false
   unfolding isHostByte isLabelByte
-  host-small = rw (letter-small, digit-small, ne-eqb b 45 (λ e. omega arith), ne-eqb b 46 (λ e. omega arith))
+  host-small = rw (letter-small b h, digit-small b h, ne-eqb b 45 (λ e. omega arith), ne-eqb b 46 (λ e. omega arith))
 
 host-plain : (b : ℕ) → isHostByte b ≡ true → isPlainByte b ≡ true
-unfolding implies isPlainByte isHostByte isLabelByte isLetter isUpper isDigit
+unfolding isPlainByte isHostByte isLabelByte isLetter isUpper isDigit
 host-plain = passes isHostByte isPlainByte (each 256 (λ b. implies (isHostByte b) (isPlainByte b)) tt) host-small
 
 key-plain : (b : ℕ) → isKeyHashByte b ≡ true → isPlainByte b ≡ true
-unfolding implies isPlainByte isKeyHashByte isLetter isUpper isDigit
+unfolding isPlainByte isKeyHashByte isLetter isUpper isDigit
 key-plain = passes isKeyHashByte isPlainByte (each 256 (λ b. implies (isKeyHashByte b) (isPlainByte b)) tt) key-small
 
 digit-plain : (b : ℕ) → isDigit b ≡ true → isPlainByte b ≡ true
-unfolding implies isPlainByte isDigit
+unfolding isPlainByte isDigit
 digit-plain = passes isDigit isPlainByte (each 256 (λ b. implies (isDigit b) (isPlainByte b)) tt) digit-small
-
--- ---- lists
-
-all-weaker : (f g : ℕ → Bool) → ((b : ℕ) → f b ≡ true → g b ≡ true) → (l : Bytes) → all f l ≡ true → all g l ≡ true
-unfolding all
-all-weaker f g h [] e = refl
-all-weaker f g h (b ∷ l) e = let p = and-eq-true-iff (f b) (all f l) .0 e in rw (h b (p .0), all-weaker f g h l (p .1))
 
 -- ---- web origins
 

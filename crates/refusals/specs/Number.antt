@@ -1,7 +1,7 @@
 -- The number of each refusal (document 01, the table of refusals).
 use Prim.Native.Nat.{ℕ}
 use Rattle.refusals.specs.declared.Refusal.{Refusal}
-use Rattle.refusals.specs.declared.Refusal.the-variants.{Stranger, BadAppId, ForeignAppId, BadRecord, OpenRedirect, BadLocation, NotFetched, WrongType, LongList, Unreadable, Misshapen, NoVersion, BadTable, NotListed, Full}
+use Rattle.refusals.specs.declared.Refusal.the-variants.{Stranger, BadAppId, ForeignAppId, BadRecord, OpenRedirect, BadLocation, NotFetched, WrongType, LongList, Unreadable, Misshapen, NoVersion, BadTable, NotListed, Full, BadHead}
 
 abbrev pub refusalNumber : Refusal → ℕ
 refusalNumber Stranger = 1
@@ -19,3 +19,4 @@ refusalNumber NoVersion = 12
 refusalNumber BadTable = 13
 refusalNumber NotListed = 14
 refusalNumber Full = 15
+refusalNumber BadHead = 16

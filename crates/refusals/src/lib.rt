@@ -18,6 +18,7 @@ pub enum Refusal {
     BadTable,
     NotListed,
     Full,
+    BadHead,
 }
 
 // The number of a refusal in that table.
@@ -40,5 +41,6 @@ pub fn number(r: Refusal) -> u16
         Refusal::BadTable => 13,
         Refusal::NotListed => 14,
         Refusal::Full => 15,
+        Refusal::BadHead => 16,
     }
 }

@@ -32,7 +32,7 @@ use Rattle.fetch_record.specs.declared.Target.the-variants.{NoRedirect, 
 -- ---- items
 
 unfoldable pub redirectOf : RedirectItem → Redirect
-redirectOf h = record { authorized = h .authorized; start = h .start; size = h .size }
+redirectOf h = record { status = h .status; authorized = h .authorized; start = h .start; size = h .size }
 
 unfoldable pub answerOf : AnswerItem → Answer
 answerOf a = record { status = a .status; typeSeen = a .«type_seen» }
@@ -47,7 +47,7 @@ answerRead NoAnswerBody = none
 
 -- the fields of a body of kind 1, well formed or not
 unfoldable pub redirectIn : Bytes → Redirect
-redirectIn s = record { authorized = eqb (getD s 2 0) 1; start = number s 3; size = number s 5 }
+redirectIn s = record { status = number s 0; authorized = eqb (getD s 2 0) 1; start = number s 3; size = number s 5 }
 
 -- ---- records
 

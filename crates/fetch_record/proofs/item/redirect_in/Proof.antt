@@ -1,4 +1,4 @@
--- `fetch_record::redirect_in` meets its contract. Assumes nothing.
+-- `fetch_record::redirect_in` meets its contract.
 use Rattle.fetch_record.proofs.Laws.{item-laws}
 use Rattle.fetch_record.proofs.item.redirect_in.Statement.{statement}
 use Rattle.fetch_record.proofs.item.redirect_in.Tie as tie
@@ -19,7 +19,13 @@ redirect-in-spec =
     (λ c. search item-laws)
     {- big-endian-requires-2 -}
     (λ c κs. search item-laws)
-    {- shared-slice-read-t5 -}
+    {- shared-slice-read-big-endian-5 -}
+    (λ c. search item-laws)
+    {- shared-slice-read-big-endian-6 -}
+    (λ c. search item-laws)
+    {- big-endian-requires-3 -}
+    (λ c κs. search item-laws)
+    {- shared-slice-read-t14 -}
     (λ c. search item-laws)
     {- returns -}
     (λ c. search item-laws))

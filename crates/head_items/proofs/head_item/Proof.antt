@@ -1,0 +1,39 @@
+-- `head_items::head_item` meets its contract.
+use Rattle.head_items.proofs.WriteLaws.{write-laws}
+use Rattle.head_items.proofs.head_item.Statement.{statement}
+use Rattle.head_items.proofs.head_item.Tie as tie
+
+pub head-item-spec : {M : Type 1} → statement M
+head-item-spec =
+    tie.close
+    (tie.spec
+    {- read-head-requires -}
+    (λ c κs. search write-laws)
+    {- enum-told -}
+    (λ c. search write-laws)
+    {- enum-known-status -}
+    (λ c. search write-laws)
+    {- write-answer-requires -}
+    (λ c κs. search write-laws)
+    {- enum-known-status-2 -}
+    (λ c. search write-laws)
+    {- sub-write-redirect -}
+    (λ c. search write-laws)
+    {- part-write-redirect-start -}
+    (λ c. search write-laws)
+    {- part-write-redirect-end -}
+    (λ c. search write-laws)
+    {- write-redirect-requires -}
+    (λ c κs. search write-laws)
+    {- returns -}
+    (λ c. search write-laws)
+    {- same-length -}
+    (λ c. search write-laws)
+    {- returns-2 -}
+    (λ c. search write-laws)
+    {- same-length-2 -}
+    (λ c. search write-laws)
+    {- same-length-3 -}
+    (λ c. search write-laws)
+    {- returns-3 -}
+    (λ c. search write-laws))

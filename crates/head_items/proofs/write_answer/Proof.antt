@@ -1,0 +1,25 @@
+-- `head_items::write_answer` meets its contract.
+use Rattle.head_items.proofs.WriteLaws.{write-laws}
+use Rattle.head_items.proofs.write_answer.Statement.{statement}
+use Rattle.head_items.proofs.write_answer.Tie as tie
+
+pub write-answer-spec : {M : Type 1} → statement M
+write-answer-spec =
+    tie.close
+    (tie.spec
+    {- returns -}
+    (λ c. search write-laws)
+    {- high-requires -}
+    (λ c κs. search write-laws)
+    {- low-requires -}
+    (λ c κs. search write-laws)
+    {- seen-requires -}
+    (λ c κs. search write-laws)
+    {- slice-aggregate-write-bytes -}
+    (λ c. search write-laws)
+    {- write-bytes-requires -}
+    (λ c κs. search write-laws)
+    {- same-length -}
+    (λ c. search write-laws)
+    {- returns-2 -}
+    (λ c. search write-laws))

@@ -1,0 +1,39 @@
+-- `head_items::write_redirect` meets its contract.
+use Rattle.head_items.proofs.WriteLaws.{write-laws}
+use Rattle.head_items.proofs.write_redirect.Statement.{statement}
+use Rattle.head_items.proofs.write_redirect.Tie as tie
+
+pub write-redirect-spec : {M : Type 1} → statement M
+write-redirect-spec =
+    tie.close
+    (tie.spec
+    {- has-room-requires -}
+    (λ c κs. search write-laws)
+    {- high-requires -}
+    (λ c κs. search write-laws)
+    {- low-requires -}
+    (λ c κs. search write-laws)
+    {- seen-requires -}
+    (λ c κs. search write-laws)
+    {- high-requires-2 -}
+    (λ c κs. search write-laws)
+    {- low-requires-2 -}
+    (λ c κs. search write-laws)
+    {- high-requires-3 -}
+    (λ c κs. search write-laws)
+    {- low-requires-3 -}
+    (λ c κs. search write-laws)
+    {- slice-aggregate-write-bytes -}
+    (λ c. search write-laws)
+    {- write-bytes-requires -}
+    (λ c κs. search write-laws)
+    {- write-bytes-requires-2 -}
+    (λ c κs. search write-laws)
+    {- same-length -}
+    (λ c. search write-laws)
+    {- same-length-2 -}
+    (λ c. search write-laws)
+    {- returns -}
+    (λ c. search write-laws)
+    {- returns-2 -}
+    (λ c. search write-laws))

@@ -1,0 +1,3 @@
+pub mod HeadItem
+pub mod ReadBack
+pub mod code

@@ -1,0 +1,5 @@
+pub mod ByteLaws
+pub mod FieldLaws
+pub mod LineLaws
+pub mod HeadLaws
+pub mod HeadBounds

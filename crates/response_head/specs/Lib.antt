@@ -1,0 +1,2 @@
+pub mod ResponseHead
+pub mod code
