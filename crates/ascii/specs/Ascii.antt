@@ -146,6 +146,12 @@ beginsWith [] t = true
 beginsWith (b ∷ p) [] = false
 beginsWith (b ∷ p) (c ∷ t) = eqb b c && beginsWith p t
 
+-- t begins with bytes that each pass a test with those of p
+unfoldable pub beginsBy : (ℕ → ℕ → Bool) → Bytes → Bytes → Bool
+beginsBy f [] t = true
+beginsBy f (b ∷ p) [] = false
+beginsBy f (b ∷ p) (c ∷ t) = f b c && beginsBy f p t
+
 unfoldable pub beginsWithNoCase : Bytes → Bytes → Bool
 beginsWithNoCase p t = beginsWith p (lower t)
 

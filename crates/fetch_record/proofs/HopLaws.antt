@@ -1,6 +1,6 @@
 -- Hop by hop, refusal 5 before 6; what record and text settle; the last Location. Assumes nothing.
 use mathlib.Core.Path.{_≡_, refl, sym, ap, _∙_}
-use mathlib.Core.Bool.{Bool, true, false, not, and-eq-true-iff, and-true}
+use mathlib.Core.Bool.{Bool, true, false, _&&_, not, and-eq-true-iff, and-true}
 use mathlib.Core.List.{List, [], _∷_, _++_}
 use mathlib.Core.Logic.{inl, inr}
 use mathlib.Core.Option.{none, some}
@@ -11,6 +11,7 @@ use lib.ListN.{length, take, drop, length-append}
 use lib.Seq.{drop-at}
 use borrow.Author.Tests.{leb-true}
 use Rattle.ascii.specs.Ascii.{Bytes, if_then_else_, _orElse_, isNone, all, lastOf}
+use Rattle.ascii.proofs.ListLaws.{all-both}
 use Rattle.origin.specs.Origin.{httpsUrl}
 use Rattle.origin.specs.code.Parts.{Reads, authorityIn}
 use Rattle.origin.specs.declared.Parts.{Parts}
@@ -46,11 +47,9 @@ record Both (lent : Bytes) (hs : List Redirect) (h : Redirect) : Type 0 where
 
 all-parts : (lent : Bytes) (hs : List Redirect) (h : Redirect) → all (inText lent) (hs ++ (h ∷ [])) ≡ true → Both lent hs h
 unfolding all
-all-parts lent [] h e = record { before = refl; last = sym (and-true (inText lent h)) ∙ e }
-all-parts lent (g ∷ hs) h e =
-    let p = and-eq-true-iff (inText lent g) (all (inText lent) (hs ++ (h ∷ []))) .0 e in
-    let B = all-parts lent hs h (p .1) in
-    record { before = rw (p .0, B .before); last = B .last }
+all-parts lent hs h e =
+    let p = and-eq-true-iff (all (inText lent) hs) (inText lent h && true) .0 (sym (all-both (inText lent) hs (h ∷ [])) ∙ e) in
+    record { before = p .0; last = sym (and-true (inText lent h)) ∙ p .1 }
 
 inside-at : (items lent : Bytes) (n k : ℕ) → all (inText lent) (redirectsIn n items) ≡ true → k < n → inText lent (redirectAt k items) ≡ true
 unfolding redirectsIn

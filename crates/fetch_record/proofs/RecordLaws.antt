@@ -13,6 +13,7 @@ use mir.Syntax.{w64}
 use mir.Val.{Fits}
 use borrow.Author.Tests.{eq-eqb, ne-eqb, eqb-true, lt-leb, le-leb}
 use Rattle.ascii.specs.Ascii.{Bytes, if_then_else_, _>>=_, all, isEmpty, beginsWith}
+use Rattle.ascii.proofs.ListLaws.{all-append}
 use Rattle.fetch_record.specs.Record.{Redirect, Answer, Fetched, readRedirect, readAnswer, readEnd, inFront, readItems, inText, readRecord}
 use Rattle.fetch_record.specs.code.Meaning.{redirectOf, redirectRead, answerRead, redirectIn, redirectAt, redirectsIn, Placed, endRead, behind, frontRead, FrontPlaced, no-front, front, Counts, layoutRead, no-layout, without, with-answer, Lays}
 use Rattle.fetch_record.specs.declared.item.Redirect.{Redirect as RedirectItem}
@@ -158,15 +159,9 @@ items-out lent (suc n) s b h e i = out-next lent n s b h e i
 
 -- ---- the count of redirects
 
-all-more : (lent : Bytes) (hs : List Redirect) (h : Redirect) → all (inText lent) hs ≡ true → inText lent h ≡ true → all (inText lent) (hs ++ (h ∷ [])) ≡ true
+one-in : (lent : Bytes) (h : Redirect) → inText lent h ≡ true → all (inText lent) (h ∷ []) ≡ true
 unfolding all
-all-more lent [] h a i = rw i
-all-more lent (g ∷ hs) h a i = go (inText lent g) a (all-more lent hs h)
-  where
-    go : (u : Bool) → (u && all (inText lent) hs) ≡ true → (all (inText lent) hs ≡ true → inText lent h ≡ true → all (inText lent) (hs ++ (h ∷ [])) ≡ true)
-        → (u && all (inText lent) (hs ++ (h ∷ []))) ≡ true
-    go true a ih = ih a i
-    go false a ih = a
+one-in lent h i = rw i
 
 pub redirects-more : (n : ℕ) (items : Bytes) → redirectsIn (n + 1) items ≡ redirectsIn n items ++ (redirectAt n items ∷ [])
 unfolding redirectsIn
@@ -253,7 +248,7 @@ module _ {items lent : Bytes} {n : ℕ} (C : Counting items lent n) where
                 placed = record {
                   few = omega arith;
                   long = omega arith;
-                  inside = rw (redirects-more n items, ← a) (all-more lent (redirectsIn n items) (redirectOf r) (C .placed .inside) i);
+                  inside = rw (redirects-more n items, ← a) (all-append (inText lent) (redirectsIn n items) (redirectOf r ∷ []) (C .placed .inside) (one-in lent (redirectOf r) i));
                 };
                 is =
                     (rw (redirects-more n items, ← a, x, w, ← drop-drop, ← behind-more, ← items-more lent (7 - n) (drop (8 * n) items) begins (redirectOf r) hop-is i, ← y))

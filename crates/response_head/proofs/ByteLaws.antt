@@ -13,6 +13,7 @@ use borrow.Author.Tests.{eq-eqb, ne-eqb, lt-ltb, le-ltb, le-leb, lt-leb}
 use Rattle.ascii.specs.Ascii.{Bytes, if_then_else_, all, among, isDigit, isLetter, isUpper, lowerByte, text}
 use Rattle.ascii.proofs.Bytes.{agree-where}
 use Rattle.ascii.proofs.ListLaws.{all-both}
+use Rattle.ascii.proofs.Compare.{by-starts, by-ends, by-differs, by-more}
 use Rattle.ascii.proofs.Scan.{scan-end, scan-stop, scan-more}
 use Rattle.response_head.specs.ResponseHead.{isBlank, isTextByte, isTchar, isOther, trimEnd, fitsByte, fitsForm}
 use Rattle.response_head.specs.code.Meaning.{isAlphanumeric, inRun, Trims}
@@ -169,42 +170,4 @@ pub fits-other : (p b : ℕ) → (p ≡ 48 → ⊥) → eqb b p ≡ fitsByte p b
 unfolding fitsByte
 fits-other p b n = rw (ne-eqb p 48 n)
 
--- the bytes before i fit: what is left decides
-pub record Fitting (p t : Bytes) (goal : Bool) (i : ℕ) : Type 0 where
-  pub long : length p ≤ length t
-  pub is : fitsForm (drop i p) (drop i t) ≡ goal
-
-pub form-starts : (p t : Bytes) → length p ≤ length t → Fitting p t (fitsForm p t) 0
-form-starts p t h = record { long = h; is = refl }
-
-module _ {p t : Bytes} {goal : Bool} {i : ℕ} (S : Fitting p t goal i) where
-  pub form-ends : length p ≤ i → true ≡ goal
-  unfolding fitsForm
-  form-ends h = (rw (drop-of-length-le p h)) ∙ S .is
-
-  module _ {r : Bool} (h : i < length p) (e : r ≡ fitsByte (getD p i 0) (getD t i 0)) where
-    form-step : fitsForm (drop i p) (drop i t) ≡ (r && fitsForm (drop (i + 1) p) (drop (i + 1) t))
-    unfolding fitsForm
-    form-step = let k : i < length t = omega (arith, S .long) in rw (add-one, drop-cons p i 0 h, drop-cons t i 0 k, e)
-
-    pub form-differs : r ≡ false → false ≡ goal
-    form-differs f = (rw (form-step, f)) ∙ S .is
-
-    pub form-more : r ≡ true → Fitting p t goal (i + 1)
-    form-more f = record { long = S .long; is = sym (rw (form-step, f)) ∙ S .is }
-
--- what is shorter fits no form
-pub form-short : (p t : Bytes) → length t < length p → false ≡ fitsForm p t
-unfolding fitsForm
-form-short [] t h = absurd (omega arith)
-form-short (b ∷ p) [] h = refl
-form-short (b ∷ p) (c ∷ t) h = rw (← form-short p t (omega arith), and-false (fitsByte b c))
-
--- what fits is as long as the form
-pub form-long : (p t : Bytes) → fitsForm p t ≡ true → length p ≤ length t
-unfolding fitsForm
-form-long [] t e = omega arith
-form-long (b ∷ p) [] e = let z : _≡_ {A = ℕ} 0 1 = cc in absurd (omega arith)
-form-long (b ∷ p) (c ∷ t) e = omega (arith, form-long p t (and-eq-true-iff (fitsByte b c) (fitsForm p t) .0 e .1))
-
-pub ruleset byte-laws = (blank-space, blank-tab, text-low, text-high, alphanumeric-low, alphanumeric-digit, alphanumeric-other, alphanumeric-letter, among-end, among-here, among-more, tchar-alphanumeric, tchar-mark, in-blank, in-text, in-tchar, in-other, scan-end, scan-stop, scan-more, trim-starts, trim-none, trim-more, trim-ends, fits-digit, fits-other, form-starts, form-ends, form-differs, form-more, needs)
+pub ruleset byte-laws = (blank-space, blank-tab, text-low, text-high, alphanumeric-low, alphanumeric-digit, alphanumeric-other, alphanumeric-letter, among-end, among-here, among-more, tchar-alphanumeric, tchar-mark, in-blank, in-text, in-tchar, in-other, scan-end, scan-stop, scan-more, trim-starts, trim-none, trim-more, trim-ends, fits-digit, fits-other, by-starts, by-ends, by-differs, by-more, needs)

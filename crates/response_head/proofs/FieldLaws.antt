@@ -10,11 +10,12 @@ use lib.Seq.{drop-cons, drop-drop, take-take, length-take-le}
 use lib.Dec.{eqb, leb}
 use borrow.Author.Needs.{needs}
 use borrow.Author.Tests.{eq-eqb, ne-eqb, eqb-true, leb-true}
-use Rattle.ascii.specs.Ascii.{Bytes, if_then_else_, _when_, all, isEmpty, takeWhile, dropWhile, among, isDigit, isLetter, isUpper, same, sameNoCase, lower, beginsWith, text, number16}
+use Rattle.ascii.specs.Ascii.{Bytes, if_then_else_, _when_, all, isEmpty, takeWhile, dropWhile, among, isDigit, isLetter, isUpper, same, sameNoCase, lower, beginsWith, beginsBy, text, number16}
 use Rattle.ascii.specs.code.Numbers.{numberOf}
 use Rattle.ascii.specs.declared.decimals.Number.{Number}
 use Rattle.ascii.specs.declared.decimals.Number.the-variants.{Malformed}
 use Rattle.ascii.proofs.Bytes.{implies, each, passes, digit-small, letter-small}
+use Rattle.ascii.proofs.Compare.{by-short}
 use Rattle.ascii.proofs.ListLaws.{all-both, all-append, all-weaker, all-drop}
 use Rattle.ascii.proofs.Scan.{while-all, while-rest, while-part, while-length, scan-to, scan-rest}
 use Rattle.response_head.specs.ResponseHead.{isBlank, isTextByte, isTchar, isOther, fitsByte, fitsForm, statusForm, readStatus, trimEnd, trim, Field, fieldOf, readField, isListType, isTrue, authorizedName, typeName, locationName}
@@ -25,7 +26,6 @@ use Rattle.response_head.specs.declared.First.the-variants.{Unseen, Righ
 use Rattle.response_head.specs.declared.Place.{Place}
 use Rattle.response_head.specs.declared.Place.the-variants.{Nowhere, Between, Several}
 use Rattle.response_head.specs.declared.Seen.{Seen}
-use Rattle.response_head.proofs.ByteLaws.{form-short}
 
 -- ---- lines are of text bytes
 
@@ -58,7 +58,7 @@ byte-text p b t = go (eqb p 48)
     go false e = rw (eqb-true b p e) t
 
 form-text : (p t : Bytes) → all isTextByte p ≡ true → fitsForm p t ≡ true → all isTextByte (take (length p) t) ≡ true
-unfolding all fitsForm
+unfolding all beginsBy
 form-text [] t h e = refl
 form-text (b ∷ p) [] h e = let z : _≡_ {A = ℕ} 0 1 = cc in absurd (omega arith)
 form-text (b ∷ p) (c ∷ t) h e =
@@ -106,7 +106,7 @@ no-field-line l e = go (record { name = takeWhile isTchar l; value = trim (drop 
 module _ (l : Bytes) where
   pub status-short : {n : ℕ} → length l < n → n ≤ 13 → Malformed ≡ numberOf (readStatus l)
   unfolding readStatus numberOf
-  status-short h k = rw (← form-short statusForm l (omega arith))
+  status-short h k = rw (← by-short fitsByte statusForm l (omega arith))
 
   module _ {q : Bool} (e : q ≡ fitsForm (text "HTTP/0.0 000 ") l) where
     pub status-bad : q ≡ false → Malformed ≡ numberOf (readStatus l)

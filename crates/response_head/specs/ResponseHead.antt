@@ -7,7 +7,7 @@ use Prim.Native.Nat.{ℕ}
 use Prim.Native.Char.{code}
 use lib.ListN.{length, take, drop}
 use lib.Dec.{eqb, leb}
-use Rattle.ascii.specs.Ascii.{Bytes, if_then_else_, _>>=_, _when_, all, isEmpty, takeWhile, dropWhile, joinHead, between, among, isDigit, isLetter, same, sameNoCase, beginsWith, text, number16}
+use Rattle.ascii.specs.Ascii.{Bytes, if_then_else_, _>>=_, _when_, all, isEmpty, takeWhile, dropWhile, joinHead, between, among, isDigit, isLetter, same, sameNoCase, beginsWith, beginsBy, text, number16}
 
 -- ---- bytes
 
@@ -36,10 +36,8 @@ unfoldable pub fitsByte : ℕ → ℕ → Bool
 fitsByte p b = if eqb p (code "0") then isDigit b else eqb b p
 
 -- s begins with bytes that fit the form
-unfoldable pub fitsForm : Bytes → Bytes → Bool
-fitsForm [] s = true
-fitsForm (p ∷ ps) [] = false
-fitsForm (p ∷ ps) (b ∷ s) = fitsByte p b && fitsForm ps s
+abbrev pub fitsForm : Bytes → Bytes → Bool
+fitsForm form s = beginsBy fitsByte form s
 
 -- HTTP-version SP status-code SP, where HTTP-version = "HTTP" "/" DIGIT "." DIGIT and status-code = 3DIGIT
 abbrev pub statusForm : Bytes

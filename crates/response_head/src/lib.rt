@@ -347,7 +347,7 @@ fn read_fields(s: &[u8], from: usize) -> Fields
             return Fields::Malformed;
         }
     }
-    Fields::Malformed
+    Fields::Malformed // no empty line
 }
 
 // ---- the head

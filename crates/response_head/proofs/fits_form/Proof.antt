@@ -1,14 +1,14 @@
 -- `response_head::fits_form` meets its contract.
 use Prim.Native.Nat.{_-_}
 use lib.ListN.{length}
-use Rattle.response_head.specs.ResponseHead.{fitsForm}
-use Rattle.response_head.proofs.ByteLaws.{Fitting}
+use Rattle.response_head.specs.ResponseHead.{fitsByte, fitsForm}
+use Rattle.ascii.proofs.Compare.{Begins}
 use Rattle.response_head.proofs.ByteLaws.{byte-laws}
 use Rattle.response_head.proofs.fits_form.Statement.{statement}
 use Rattle.response_head.proofs.fits_form.Tie as tie
 
 abbrev Inv-loop : tie.InvT-loop
-Inv-loop form s i₀ i = Fitting form s (fitsForm form s) i
+Inv-loop form s i₀ i = Begins fitsByte form s (fitsForm form s) i
 
 abbrev μ-loop : tie.MeasureT-loop
 μ-loop form s i₀ i = length form - i
