@@ -132,8 +132,8 @@ mod tests {
 
     #[test]
     fn an_unknown_code_panics_with_its_number() {
-        // 115 is a refusal of cleaning's alone.
-        for code in [0, 6, 99, 100, 115, 116, u16::MAX] {
+        // Refusals 15 and 16 are other calls'.
+        for code in [0, 6, 99, 100, 115, 116, 117, u16::MAX] {
             let panic = panic::catch_unwind(|| Answer::from_library(code, 0)).expect_err("no answer");
             let message = panic.downcast_ref::<String>().expect("a message");
             assert!(message.ends_with(&format!("decision {code}")), "{message}");

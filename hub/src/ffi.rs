@@ -15,6 +15,15 @@ pub struct Location {
     pub len: u32,
 }
 
+/// What reading a head reports: `refusal` is 0 where it wrote an item of `item_len` bytes and a Location of
+/// `text_len`.
+#[repr(C)]
+pub struct HeadRead {
+    pub refusal: u32,
+    pub item_len: u32,
+    pub text_len: u32,
+}
+
 /// What cleaning reports: `refusal` is 0 where it wrote a list of `len` bytes.
 #[repr(C)]
 pub struct Cleaned {
@@ -52,6 +61,7 @@ macro_rules! no_free_byte {
 }
 
 no_free_byte!(12, Location { source: u32, start: u32, len: u32 });
+no_free_byte!(12, HeadRead { refusal: u32, item_len: u32, text_len: u32 });
 no_free_byte!(8, Cleaned { refusal: u32, len: u32 });
 no_free_byte!(
     24,
@@ -60,7 +70,7 @@ no_free_byte!(
 
 mod c {
     use super::Location;
-    use super::{Cleaned, Tally};
+    use super::{Cleaned, HeadRead, Tally};
 
     extern "C" {
         pub fn facets_private_label(
@@ -115,6 +125,16 @@ mod c {
             text: *const u8,
             text_len: usize,
         ) -> Location;
+
+        pub fn facets_read_head(
+            head: *const u8,
+            head_len: usize,
+            start: u32,
+            item: *mut u8,
+            item_len: usize,
+            text: *mut u8,
+            text_len: usize,
+        ) -> HeadRead;
 
         pub fn facets_clean(
             appid: *const u8,
@@ -210,6 +230,24 @@ pub fn fetch_location(caller: &[u8], appid: &[u8], record: &[u8], text: &[u8]) -
             record.as_ptr(),
             record.len(),
             text.as_ptr(),
+            text.len(),
+        )
+    }
+}
+
+/// Writes a head's record item to the beginning of `item` and its Location to that of `text`; a refusal changes
+/// no byte of either.
+pub fn read_head(head: &[u8], start: u32, item: &mut [u8], text: &mut [u8]) -> HeadRead {
+    // SAFETY: every pointer is valid for reads of the length beside it during the call, and those of `item` and
+    // `text` for writes too; these two overlap no other slice.
+    unsafe {
+        c::facets_read_head(
+            head.as_ptr(),
+            head.len(),
+            start,
+            item.as_mut_ptr(),
+            item.len(),
+            text.as_mut_ptr(),
             text.len(),
         )
     }

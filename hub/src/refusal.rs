@@ -1,8 +1,8 @@
-//! The refusals of document 01.
+//! The refusals of document 01 and of the requests that change it.
 
 use std::fmt;
 
-/// Why a call is refused; as a number, document 01's.
+/// Why a call is refused; as a number, the documents'.
 #[derive(Clone, Copy, Debug, PartialEq, Eq, PartialOrd, Ord, Hash)]
 #[repr(u16)]
 pub enum Refusal {
@@ -34,13 +34,15 @@ pub enum Refusal {
     BadTable = 13,
     /// No kept entry matches the caller.
     NotListed = 14,
-    /// The output is shorter than the cleaned list.
+    /// An output is shorter than what is to be written, or a redirect's start does not fit 2 bytes.
     Full = 15,
+    /// The response head is not one, is over 8,192 bytes, or is a redirect's without exactly one Location.
+    BadHead = 16,
 }
 
 impl Refusal {
     /// All refusals, by their numbers from 1.
-    pub const ALL: [Refusal; 15] = [
+    pub const ALL: [Refusal; 16] = [
         Refusal::Stranger,
         Refusal::BadAppId,
         Refusal::ForeignAppId,
@@ -56,9 +58,10 @@ impl Refusal {
         Refusal::BadTable,
         Refusal::NotListed,
         Refusal::Full,
+        Refusal::BadHead,
     ];
 
-    /// The refusal's number, from 1 to 15.
+    /// The refusal's number, from 1 to 16.
     pub fn number(self) -> u16 {
         self as u16
     }
@@ -69,7 +72,7 @@ impl Refusal {
         refusal.unwrap_or_else(|| panic!("the library gave the unknown refusal {number}"))
     }
 
-    /// The refusal's name in document 01.
+    /// The refusal's name.
     pub fn name(self) -> &'static str {
         match self {
             Refusal::Stranger => "stranger",
@@ -87,6 +90,7 @@ impl Refusal {
             Refusal::BadTable => "bad table",
             Refusal::NotListed => "not listed",
             Refusal::Full => "full",
+            Refusal::BadHead => "bad head",
         }
     }
 }
@@ -104,14 +108,20 @@ mod tests {
     use super::Refusal;
 
     #[test]
-    fn every_number_from_1_to_15_is_a_refusal() {
-        let numbers: Vec<u16> = (1..=15).map(|n| Refusal::from_library(n).number()).collect();
-        assert_eq!(numbers, (1..=15).collect::<Vec<u16>>());
+    fn every_number_from_1_to_16_is_a_refusal() {
+        let numbers: Vec<u16> = (1..=16).map(|n| Refusal::from_library(n).number()).collect();
+        assert_eq!(numbers, (1..=16).collect::<Vec<u16>>());
     }
 
     #[test]
-    #[should_panic(expected = "unknown refusal 16")]
-    fn a_number_past_15_is_unknown() {
-        Refusal::from_library(16);
+    fn a_refusal_shows_its_number_and_name() {
+        assert_eq!(Refusal::Stranger.to_string(), "refused 1, stranger");
+        assert_eq!(Refusal::BadHead.to_string(), "refused 16, bad head");
+    }
+
+    #[test]
+    #[should_panic(expected = "unknown refusal 17")]
+    fn a_number_past_16_is_unknown() {
+        Refusal::from_library(17);
     }
 }

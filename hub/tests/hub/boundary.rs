@@ -13,7 +13,7 @@ const DECLARED: &str = include_str!("../../src/ffi.rs");
 const PACKAGE: &str = include_str!("../../src/lib.rs");
 
 /// The structs, and how many bytes each has.
-const SIZES: [(&str, usize); 3] = [("Location", 12), ("Cleaned", 8), ("Tally", 24)];
+const SIZES: [(&str, usize); 4] = [("Location", 12), ("Cleaned", 8), ("Tally", 24), ("HeadRead", 12)];
 
 /// A call or a struct: its parameters or fields in order, each a name and a type, and what it returns.
 #[derive(Clone, Debug, PartialEq)]
@@ -302,8 +302,8 @@ fn has_ffi_as_it_is(package: &str) -> bool {
 fn the_declarations_are_the_exports() {
     assert_eq!(differences(LIBRARY, DECLARED), [""; 0]);
     let (library, declared) = (library(LIBRARY), declared(DECLARED));
-    assert_eq!((library.calls.len(), library.structs.len()), (6, 3));
-    assert_eq!((declared.calls.len(), declared.structs.len()), (6, 3));
+    assert_eq!((library.calls.len(), library.structs.len()), (7, 4));
+    assert_eq!((declared.calls.len(), declared.structs.len()), (7, 4));
     assert!(has_ffi_as_it_is(PACKAGE));
 }
 
@@ -369,14 +369,25 @@ fn damaged_exports_are_seen() {
             "[\"pub len\", \"u32\"], [\"pub start\"",
         ),
         ("pub source: u32", "pub source: u8", "Location has free bytes"),
-        ("pub refusal: u32", "pub refusal: u16", "Cleaned has free bytes"),
-        ("pub refusal: u32,", "", "Cleaned\", parts: [[\"pub len\", \"u32\"]]"),
+        ("Cleaned {\n    pub refusal: u32", "Cleaned {\n    pub refusal: u16", "Cleaned has free bytes"),
+        ("Cleaned {\n    pub refusal: u32,", "Cleaned {", "Cleaned\", parts: [[\"pub len\", \"u32\"]]"),
         ("#[repr(C)]\npub struct Tally", "pub struct Tally", "a struct without #[repr(C)]"),
         ("major: u16,\n    minor: u16,", "minor: u16,\n    major: u16,", "[\"minor\", \"u16\"], [\"major\""),
         ("host: &[u8], table: &[u8]", "table: &[u8], host: &[u8]", "[\"table_len\", \"usize\"], [\"host\""),
         ("major: u16,", "major: u32,", "[\"major\", \"u32\"]"),
         ("place: &mut u32", "place: &mut u16", "which the hub cannot pass"),
         ("out: &mut [u8]", "out: &[u8]", "[\"out\", \"* const u8\"]"),
+        ("item: &mut [u8]", "item: &[u8]", "[\"item\", \"* const u8\"]"),
+        ("text: &mut [u8]", "text: &[u8]", "[\"text\", \"* const u8\"]"),
+        ("text: &mut [u8]", "text: &mut [u16]", "which the hub cannot pass"),
+        ("start: u32,\n    item", "start: u16,\n    item", "[\"start\", \"u16\"]"),
+        (
+            "item: &mut [u8],\n    text: &mut [u8]", "text: &mut [u8],\n    item: &mut [u8]",
+            "[\"text_len\", \"usize\"], [\"item\"",
+        ),
+        ("pub item_len: u32", "pub item_len: u16", "HeadRead has free bytes"),
+        ("pub text_len: u32,", "", "HeadRead has 8 bytes"),
+        (") -> HeadRead", ") -> Location", "result: \"Location\""),
         ("],\n) -> u16", "],\n) -> u32", "result: \"u32\""),
         (") -> Tally", ") -> Cleaned", "result: \"Cleaned\""),
         ("fn facets_tally", "fn facets_count", "facets_tally is not exported"),
@@ -384,7 +395,7 @@ fn damaged_exports_are_seen() {
         ("fn facets_decide_place", "fn facets_decide", "facets_decide is exported twice"),
         ("#[no_mangle]", "", "an export without its marks"),
         ("#[no_mangle]", "", "facets_private_label is not exported"),
-        ("pub refusal: u32,", "", "Cleaned has 4 bytes"),
+        ("Cleaned {\n    pub refusal: u32,", "Cleaned {", "Cleaned has 4 bytes"),
         ("pub start: u32,", "pub start: u64,", "Location has 16 bytes"),
         ("pub struct Tally", "pub struct Counts", "Counts has 24 bytes"),
         ("#[no_mangle]", "/*\n#[no_mangle]", "a block comment"),
@@ -406,6 +417,16 @@ fn damaged_declarations_are_seen() {
         ("major: u16,\n            minor: u16,", "minor: u16,\n            major: u16,", "\"minor\""),
         ("place: *mut u32", "place: *mut u16", "[\"place\", \"* mut u16\"]"),
         ("out: *mut u8", "out: *const u8", "[\"out\", \"* const u8\"]"),
+        ("item: *mut u8", "item: *const u8", "[\"item\", \"* const u8\"]"),
+        ("text: *mut u8", "text: *const u8", "[\"text\", \"* const u8\"]"),
+        ("item: *mut u8", "text: *mut u8", "facets_read_head"),
+        ("start: u32,\n            item", "start: u16,\n            item", "[\"start\", \"u16\"]"),
+        (
+            "pub item_len: u32,\n    pub text_len: u32,",
+            "pub text_len: u32,\n    pub item_len: u32,",
+            "HeadRead",
+        ),
+        (") -> HeadRead;", ") -> Location;", "result: \"Location\""),
         (") -> u32;", ") -> u16;", "result: \"u16\""),
         (") -> u32;", ");", "result: \"nothing\""),
         ("pub fn facets_clean", "pub fn facets_wash", "facets_clean is not declared"),
@@ -418,7 +439,11 @@ fn damaged_declarations_are_seen() {
         ("extern \"C\" {", "pub(super) type usize = u32;\nextern \"C\" {", "an item type"),
         ("mod c {", "enum u8 {}\nmod c {", "an item enum"),
         ("use super::Location;", "use super::Location as u32;", "a use with as"),
-        ("{Cleaned, Tally}", "{\n    Cleaned as u16,\n    Tally,\n}", "a use with as"),
+        (
+            "{Cleaned, HeadRead, Tally}",
+            "{\n    Cleaned as u16,\n    HeadRead,\n    Tally,\n}",
+            "a use with as",
+        ),
         ("use super::Location;", "use super::*;", "a use with *"),
         ("use super::Location;", "use super::{Location, usize};", "a use with usize"),
         ("pub start: u32,", "", "Location has 8 bytes"),
@@ -437,8 +462,9 @@ fn damaged_declarations_are_seen() {
 fn sizes_damaged_alike_on_both_sides_are_seen() {
     for (old, new, expected) in [
         ("pub start: u32,", "", "Location has 8 bytes"),
-        ("pub refusal: u32,", "pub refusal: u32, pub more: u32,", "Cleaned has 12 bytes"),
+        ("Cleaned {", "Cleaned {\n    pub more: u32,", "Cleaned has 12 bytes"),
         ("pub not_facet: u32,", "", "Tally has 20 bytes"),
+        ("pub text_len: u32,", "", "HeadRead has 8 bytes"),
     ] {
         let (rattle, rust) = (LIBRARY.replacen(old, new, 1), DECLARED.replacen(old, new, 1));
         assert_eq!(differences(&rattle, &rust), [expected; 2]);
