@@ -4,10 +4,11 @@ use crate::{
     case::{shown, Case},
     model::{
         decision::{self, Answer, Decision},
+        head::{self, Head},
         Refused,
     },
 };
-use facets_hub::{clean, tally, Counts};
+use facets_hub::{clean, read_head, tally, Counts};
 use facets_hub::{decide, decision_code, decision_code_with_place, fetch_location, Refusal};
 
 /// What the place is before a call.
@@ -73,5 +74,25 @@ pub fn tallying(case: &Case) -> Result<[u32; 5], Refused> {
     };
     let given = tally(appid, *major, *minor, body, table);
     assert_eq!(given, expected.map(counts).map_err(refusal), "{case:?}");
+    expected
+}
+
+/// Asserts that the library reads a head into these outputs like the model, byte for byte; returns what the head
+/// says, or the refusal.
+pub fn head(head: &[u8], start: u32, item: &[u8], text: &[u8]) -> Result<Head, Refused> {
+    let (mut expected_item, mut expected_text) = (item.to_vec(), text.to_vec());
+    let (mut given_item, mut given_text) = (item.to_vec(), text.to_vec());
+    let expected = head::write(head, start, &mut expected_item, &mut expected_text);
+    let lengths = expected.as_ref().map(|head| match head {
+        Head::Redirect(redirect) => facets_hub::Head::Redirect { location: redirect.location.len() },
+        Head::Answer(_) => facets_hub::Head::Answer,
+    });
+    let given = read_head(head, start, &mut given_item, &mut given_text);
+    let inputs =
+        || format!("start {start}, into {} and {} bytes, head {}", item.len(), text.len(), shown(head));
+    assert_eq!(given, lengths.map_err(|number| refusal(*number)), "{}", inputs());
+    assert_eq!(given_item, expected_item, "the item's output, {}", inputs());
+    assert_eq!(shown(&given_text), shown(&expected_text), "the Location's output, {}", inputs());
+    assert!(given_text == expected_text, "the Location's output past its first bytes, {}", inputs());
     expected
 }

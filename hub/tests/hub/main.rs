@@ -7,6 +7,7 @@ mod check;
 mod cleaning;
 mod decision;
 mod hand;
+mod head;
 mod hidden;
 mod label;
 mod list;

@@ -1,18 +1,19 @@
 //! "Fetch record": the document's sentences stand above the lines that say the same.
 
-#[derive(Debug)]
+#[derive(Clone, Debug, PartialEq, Eq)]
 pub struct Redirect {
+    pub status: u16,
     pub header_seen: bool,
     pub location: Vec<u8>,
 }
 
-#[derive(Debug)]
+#[derive(Clone, Debug, PartialEq, Eq)]
 pub struct Answer {
     pub status: u16,
     pub type_seen: bool,
 }
 
-#[derive(Debug)]
+#[derive(Clone, Debug, Default, PartialEq, Eq)]
 pub struct Record {
     pub redirects: Vec<Redirect>,
     pub answer: Option<Answer>,
@@ -45,12 +46,13 @@ pub fn read(record: &[u8], text: &[u8]) -> Option<Record> {
 /// Status (2, from 300 to 399), authorized header seen (1, value 0 or 1), start and length (2 each) of its
 /// Location in a lent text.
 fn redirect(body: &[u8], text: &[u8]) -> Option<Redirect> {
-    if !(300..=399).contains(&number(&body[..2])) {
+    let status = number(&body[..2]);
+    if !(300..=399).contains(&status) {
         return None;
     }
     let (start, length) = (usize::from(number(&body[3..5])), usize::from(number(&body[5..7])));
     let location = text.get(start..start + length)?;
-    Some(Redirect { header_seen: seen(body[2])?, location: location.to_vec() })
+    Some(Redirect { status, header_seen: seen(body[2])?, location: location.to_vec() })
 }
 
 /// Numbers are big-endian.
