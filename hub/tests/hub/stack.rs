@@ -7,7 +7,8 @@ use crate::{
     make::record::{answer, redirect},
 };
 use facets_hub::{
-    clean, decision_code, decision_code_with_place, fetch_location, private_label, tally, Refusal,
+    clean, decision_code, decision_code_with_place, fetch_location, private_label, read_head, tally, Head,
+    Refusal,
 };
 use std::{
     ffi::{c_int, c_ulong, c_void},
@@ -195,6 +196,68 @@ fn cleaning(case: &Case, whole: Result<usize, Refusal>, room: usize) -> usize {
     taken
 }
 
+/// Heads that are longest, each in another way, good and bad, and what they come to.
+fn heads() -> [(&'static str, Result<Head, Refusal>, String); 19] {
+    // 8,192 bytes: these lines, as many of the piece as fit, and the end.
+    let filled = |start: &str, piece: &str, end: &str| {
+        let count = (8192 - start.len() - end.len()) / piece.len();
+        let mut head = start.to_owned() + &piece.repeat(count);
+        let blanks = 8192 - head.len() - end.len();
+        head.insert_str("HTTP/1.1 302 ".len(), &" ".repeat(blanks));
+        head + end
+    };
+    let (found, ok) = ("HTTP/1.1 302 \r\nLocation: a\r\n", "HTTP/1.1 200 \r\n");
+    let redirect = |location: usize| Ok(Head::Redirect { location });
+    let (answer, bad) = (Ok(Head::Answer), Err(Refusal::BadHead));
+    [
+        ("typical redirect", redirect(1), format!("{found}FIDO-AppID-Redirect-Authorized: true\r\n\r\n")),
+        (
+            "typical answer",
+            answer,
+            format!("{ok}Content-Type: application/fido.trusted-apps+json; a\r\n\r\n"),
+        ),
+        ("long reason", answer, filled("HTTP/1.1 200 ", "r", "\r\n\r\n")),
+        ("long value", redirect(1), filled(&format!("{found}X: "), "v", "\r\n\r\n")),
+        ("long name", redirect(1), filled(found, "n", ":\r\n\r\n")),
+        ("longest Location", redirect(8164), filled("HTTP/1.1 302 \r\nLocation:", "l", "\r\n\r\n")),
+        ("blanks around a value", redirect(1), filled(&format!("{found}X:"), " \t", "v\r\n\r\n")),
+        ("shortest lines", answer, filled(ok, "a:\r\n", "\r\n")),
+        ("shortest lines of a redirect", redirect(1), filled(found, "a:\r\n", "\r\n")),
+        ("authorized lines", redirect(1), filled(found, "FIDO-AppID-Redirect-Authorized:\r\n", "\r\n")),
+        (
+            "content type lines",
+            answer,
+            filled(ok, "Content-Type: application/fido.trusted-apps+json;\r\n", "\r\n"),
+        ),
+        ("Location lines", bad, filled(found, "Location:\r\n", "\r\n")),
+        ("Location lines of an answer", answer, filled(ok, "Location:\r\n", "\r\n")),
+        ("no Location", bad, filled("HTTP/1.1 302 \r\n", "a:\r\n", "\r\n")),
+        ("no empty line", bad, filled(ok, "a:\r\n", "b:\r\n")),
+        ("no colon at the end", bad, filled(ok, "a:\r\n", "b\r\n\r\n")),
+        ("a byte too long", bad, filled(ok, "a:\r\n", "\r\n").replacen(" \r", "  \r", 1)),
+        ("a mebibyte", bad, format!("{ok}{}\r\n", "a:\r\n".repeat(262_144))),
+        ("nothing", bad, String::new()),
+    ]
+}
+
+/// The stack that reading a head takes at most, into outputs that are long enough, and into empty ones.
+fn reading_heads() -> [usize; 2] {
+    let mut most = [0; 2];
+    for (name, expected, head) in heads() {
+        let full = expected.and(Err(Refusal::Full));
+        for (at, rooms, expected) in [(0, [8, 8192], expected), (1, [0, 0], full)] {
+            let ([mut item, mut text], mut given) = (rooms.map(|room| vec![0; room]), None);
+            let taken = used(|| given = Some(read_head(head.as_bytes(), 65_535, &mut item, &mut text)));
+            assert_eq!(given, Some(expected), "{name}");
+            if taken > most[at] {
+                println!("    {name}, into {rooms:?} bytes: {taken}");
+                most[at] = taken;
+            }
+        }
+    }
+    most
+}
+
 #[test]
 fn every_call_takes_at_most_6_kib_of_stack() {
     let mut most = [
@@ -247,7 +310,10 @@ fn every_call_takes_at_most_6_kib_of_stack() {
     }
     println!("{lists} of the inputs have a cleaned list");
     assert!(lists >= 10, "lists whose length is added up");
-    for (call, taken) in most {
+    println!("stack with {} heads; those that took more of it than any before:", heads().len());
+    let [whole, empty] = reading_heads();
+    let reading = [("facets_read_head", whole), ("facets_read_head, empty outputs", empty)];
+    for (call, taken) in most.into_iter().chain(reading) {
         println!("{call}: at most {taken} bytes of stack, {:.1} KiB", taken as f64 / 1024.0);
         assert!(taken > nothing && taken <= MOST, "{call} takes {taken} bytes of stack");
     }
