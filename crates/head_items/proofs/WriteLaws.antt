@@ -144,4 +144,10 @@ module _ (s : Bytes) (o : Option Head) {q : Reading} (R : ReadsHead s o q) where
     unfolding headIn
     head-redirect A = let z : o ≡ some (redirect n w (take (b - a) (drop a s))) = sym (R .is) ∙ rw k in rw z A
 
-pub ruleset write-laws = (seen-true, seen-false, answer-short, answer-written, room-item, room-text, room-start, redirect-full, redirect-written, head-refused, head-answer, head-low, head-high, head-redirect, needs)
+pub ruleset byte-laws = (seen-true, seen-false, room-item, room-text, room-start, needs)
+
+pub ruleset answer-laws = (answer-short, answer-written, needs)
+
+pub ruleset redirect-laws = (redirect-full, redirect-written, needs)
+
+pub ruleset head-laws = (head-refused, head-answer, head-low, head-high, head-redirect, needs)

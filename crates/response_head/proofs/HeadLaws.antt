@@ -232,10 +232,6 @@ module _ (status : ℕ) (x : Seen) where
 
 -- ---- the head
 
-pub head-long : (s : Bytes) {n : ℕ} → n < length s → 8192 ≤ n → ReadsHead s (readHead s) NoHead
-unfolding headIn readHead
-head-long s h k = record { is = rw (lt-leb (length s) 8192 (omega arith)); places = no-head }
-
 status-some : (o : Option ℕ) {n : ℕ} → Value n ≡ numberOf o → o ≡ some n
 unfolding numberOf
 status-some none e = let w : _≡_ {A = ℕ} 0 1 = cc in absurd (omega arith)
@@ -257,36 +253,48 @@ module _ (s : Bytes) {end : ℕ} (e : end ≡ 0 + length (takeWhile isTextByte s
     pub first-fits : q ≡ true → length s < 2 ^ 64 → Fits w64 (end + 2)
     first-fits f l = line-fits s 0 e g f l
 
-    module _ (h : length s ≤ 8192) where
-      head-none : readLines (linesOf s) ≡ none → ReadsHead s (readHead s) NoHead
-      unfolding headIn readHead
-      head-none k = record { is = rw (le-leb (length s) 8192 h, k); places = no-head }
+    head-none : readLines (linesOf s) ≡ none → ReadsHead s (readLines (linesOf s)) NoHead
+    unfolding headIn
+    head-none k = record { is = rw k; places = no-head }
 
-      pub head-cut : q ≡ false → ReadsHead s (readHead s) NoHead
-      head-cut f = head-none (cut-lines (line-cut s 0 e g f))
+    pub head-cut : q ≡ false → ReadsHead s (readLines (linesOf s)) NoHead
+    head-cut f = head-none (cut-lines (line-cut s 0 e g f))
 
-      module _ (f : q ≡ true) {r : Number} (t : r ≡ numberOf (readStatus (take (end - 0) s))) where
-        head-lines : readLines (linesOf s) ≡ (readStatus (take (end - 0) s) >>= λ status. readFields (linesOf (drop (end + 2) s)) >>= λ fs. headOf status fs)
-        unfolding readLines
-        head-lines = ap readLines (line-whole s 0 e g f)
+    module _ (f : q ≡ true) {r : Number} (t : r ≡ numberOf (readStatus (take (end - 0) s))) where
+      head-lines : readLines (linesOf s) ≡ (readStatus (take (end - 0) s) >>= λ status. readFields (linesOf (drop (end + 2) s)) >>= λ fs. headOf status fs)
+      unfolding readLines
+      head-lines = ap readLines (line-whole s 0 e g f)
 
-        pub head-no-status : r ≡ NoNumber → ReadsHead s (readHead s) NoHead
-        head-no-status k = head-none (head-lines ∙ rw (status-none (readStatus (take (end - 0) s)) (sym k ∙ t)))
+      pub head-no-status : r ≡ NoNumber → ReadsHead s (readLines (linesOf s)) NoHead
+      head-no-status k = head-none (head-lines ∙ rw (status-none (readStatus (take (end - 0) s)) (sym k ∙ t)))
 
-        module _ {n : ℕ} (k : r ≡ Value n) {y : Fields} (F : FieldsRead s (readFields (linesOf (drop (end + 2) s))) y) where
-          fields-lines : readLines (linesOf s) ≡ (readFields (linesOf (drop (end + 2) s)) >>= λ fs. headOf n fs)
-          fields-lines = head-lines ∙ rw (status-some (readStatus (take (end - 0) s)) (sym k ∙ t))
+      module _ {n : ℕ} (k : r ≡ Value n) {y : Fields} (F : FieldsRead s (readFields (linesOf (drop (end + 2) s))) y) where
+        fields-lines : readLines (linesOf s) ≡ (readFields (linesOf (drop (end + 2) s)) >>= λ fs. headOf n fs)
+        fields-lines = head-lines ∙ rw (status-some (readStatus (take (end - 0) s)) (sym k ∙ t))
 
-          pub head-no-fields : y ≡ NoFields → ReadsHead s (readHead s) NoHead
-          head-no-fields l = head-none (fields-lines ∙ rw (reads-none (rw l at F)))
+        pub head-no-fields : y ≡ NoFields → ReadsHead s (readLines (linesOf s)) NoHead
+        head-no-fields l = head-none (fields-lines ∙ rw (reads-none (rw l at F)))
 
-          head-from : (fs : List Field) → readFields (linesOf (drop (end + 2) s)) ≡ some fs → {x : Seen} {z : Reading} → Sees s fs x → Makes n x z → ReadsHead s (readHead s) z
-          unfolding readHead
-          head-from fs i S M = let E : readHead s ≡ headOf n fs = rw (le-leb (length s) 8192 h, fields-lines, i) in rw E (M .is s fs S)
+        head-from : (fs : List Field) {z : Reading} → readFields (linesOf (drop (end + 2) s)) ≡ some fs → ReadsHead s (headOf n fs) z → ReadsHead s (readLines (linesOf s)) z
+        head-from fs i R = let E : readLines (linesOf s) ≡ headOf n fs = fields-lines ∙ rw i in rw E R
 
-          pub head-is : {x : Seen} {z : Reading} → y ≡ Read x → Makes n x z → ReadsHead s (readHead s) z
-          head-is l M = let R = reads-to (rw l at F) in head-from (R .all-of) (R .is) (R .sees) M
+        pub head-is : {x : Seen} {z : Reading} → y ≡ Read x → Makes n x z → ReadsHead s (readLines (linesOf s)) z
+        head-is l M =
+            let R = reads-to (rw l at F) in
+            head-from (R .all-of) (R .is) (M .is s (R .all-of) (R .sees))
+
+-- at most 8,192 bytes
+module _ (s : Bytes) where
+  pub head-long : {n : ℕ} → n < length s → 8192 ≤ n → ReadsHead s (readHead s) NoHead
+  unfolding headIn readHead
+  head-long h k = record { is = rw (lt-leb (length s) 8192 (omega arith)); places = no-head }
+
+  pub head-short : {n : ℕ} {z : Reading} → length s ≤ n → n ≤ 8192 → ReadsHead s (readLines (linesOf s)) z → ReadsHead s (readHead s) z
+  unfolding readHead
+  head-short h k R = rw (le-leb (length s) 8192 (omega arith)) R
 
 pub ruleset gather-laws = (line-is, line-fits, line-high, gather-starts, gather-out, gather-cut, gather-last, gather-behind, gather-bad, gather-more, needs)
 
-pub ruleset head-laws = (makes-low, makes-high, makes-nowhere, makes-several, makes-redirect, head-long, first-high, first-text, first-fits, head-cut, head-no-status, head-no-fields, head-is, needs)
+pub ruleset head-laws = (makes-low, makes-high, makes-nowhere, makes-several, makes-redirect, first-high, first-text, first-fits, head-cut, head-no-status, head-no-fields, head-is, needs)
+
+pub ruleset bound-laws = (head-long, head-short, needs)

@@ -6,7 +6,7 @@ ghost use Prim.Native.Nat.{_+_, _≤_};
 ghost use lib.ListN.{length, drop};
 ghost use Rattle.ascii.specs.Ascii.{all, takeWhile, among};
 ghost use Rattle.ascii.specs.code.Numbers.{numberOf};
-ghost use Rattle.response_head.specs.ResponseHead.{isBlank, isTextByte, isTchar, fitsByte, fitsForm, readStatus, isListType, linesOf, readFields, readHead};
+ghost use Rattle.response_head.specs.ResponseHead.{isBlank, isTextByte, isTchar, fitsByte, fitsForm, readStatus, isListType, linesOf, readFields, readLines, readHead};
 ghost use Rattle.response_head.specs.code.Meaning.{isAlphanumeric, inRun, Trims, ReadsField, firstBy, isRight, placeBy, seenWith, TextLine, Adds, FieldsRead, Makes, ReadsHead};
 
 // A whole head: status and authorized header of a redirect, with the places of its Location; status and right type of an answer.
@@ -372,13 +372,10 @@ fn reading_of(status: u16, x: Seen) -> Reading
     }
 }
 
-// A head of at most 8,192 bytes; Malformed: not in this form, or a redirect without its one Location.
-pub fn read_head(head: &[u8]) -> Reading
-    ensures { λ r. ⌜ ReadsHead (now (head .entry)) (readHead (now (head .entry))) r ⌝ }
+// A head of any length: status line, field lines, the empty line last.
+fn read_lines(head: &[u8]) -> Reading
+    ensures { λ r. ⌜ ReadsHead (now (head .entry)) (readLines (linesOf (now (head .entry)))) r ⌝ }
 {
-    if 8192 < head.len() {
-        return Reading::Malformed;
-    }
     let end = run_end(Run::Text, head, 0);
     if ascii::begins_with(&head[end..], b"\r\n") {
         let Number::Value(status) = read_status(&head[0..end]) else {
@@ -391,4 +388,14 @@ pub fn read_head(head: &[u8]) -> Reading
     } else {
         Reading::Malformed
     }
+}
+
+// At most 8,192 bytes; Malformed: not in this form, or a redirect without its one Location.
+pub fn read_head(head: &[u8]) -> Reading
+    ensures { λ r. ⌜ ReadsHead (now (head .entry)) (readHead (now (head .entry))) r ⌝ }
+{
+    if 8192 < head.len() {
+        return Reading::Malformed;
+    }
+    read_lines(head)
 }

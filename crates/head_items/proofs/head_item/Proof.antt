@@ -1,5 +1,5 @@
 -- `head_items::head_item` meets its contract.
-use Rattle.head_items.proofs.WriteLaws.{write-laws}
+use Rattle.head_items.proofs.WriteLaws.{head-laws}
 use Rattle.head_items.proofs.head_item.Statement.{statement}
 use Rattle.head_items.proofs.head_item.Tie as tie
 
@@ -8,32 +8,32 @@ head-item-spec =
     tie.close
     (tie.spec
     {- read-head-requires -}
-    (λ c κs. search write-laws)
+    (λ c κs. search head-laws)
     {- enum-told -}
-    (λ c. search write-laws)
+    (λ c. search head-laws)
     {- enum-known-status -}
-    (λ c. search write-laws)
+    (λ c. search head-laws)
     {- write-answer-requires -}
-    (λ c κs. search write-laws)
+    (λ c κs. search head-laws)
     {- enum-known-status-2 -}
-    (λ c. search write-laws)
+    (λ c. search head-laws)
     {- sub-write-redirect -}
-    (λ c. search write-laws)
+    (λ c. search head-laws)
     {- part-write-redirect-start -}
-    (λ c. search write-laws)
+    (λ c. search head-laws)
     {- part-write-redirect-end -}
-    (λ c. search write-laws)
+    (λ c. search head-laws)
     {- write-redirect-requires -}
-    (λ c κs. search write-laws)
+    (λ c κs. search head-laws)
     {- returns -}
-    (λ c. search write-laws)
+    (λ c. search head-laws)
     {- same-length -}
-    (λ c. search write-laws)
+    (λ c. search head-laws)
     {- returns-2 -}
-    (λ c. search write-laws)
+    (λ c. search head-laws)
     {- same-length-2 -}
-    (λ c. search write-laws)
+    (λ c. search head-laws)
     {- same-length-3 -}
-    (λ c. search write-laws)
+    (λ c. search head-laws)
     {- returns-3 -}
-    (λ c. search write-laws))
+    (λ c. search head-laws))

@@ -1,5 +1,5 @@
 -- `head_items::write_answer` meets its contract.
-use Rattle.head_items.proofs.WriteLaws.{write-laws}
+use Rattle.head_items.proofs.WriteLaws.{answer-laws}
 use Rattle.head_items.proofs.write_answer.Statement.{statement}
 use Rattle.head_items.proofs.write_answer.Tie as tie
 
@@ -8,18 +8,18 @@ write-answer-spec =
     tie.close
     (tie.spec
     {- returns -}
-    (λ c. search write-laws)
+    (λ c. search answer-laws)
     {- high-requires -}
-    (λ c κs. search write-laws)
+    (λ c κs. search answer-laws)
     {- low-requires -}
-    (λ c κs. search write-laws)
+    (λ c κs. search answer-laws)
     {- seen-requires -}
-    (λ c κs. search write-laws)
+    (λ c κs. search answer-laws)
     {- slice-aggregate-write-bytes -}
-    (λ c. search write-laws)
+    (λ c. search answer-laws)
     {- write-bytes-requires -}
-    (λ c κs. search write-laws)
+    (λ c κs. search answer-laws)
     {- same-length -}
-    (λ c. search write-laws)
+    (λ c. search answer-laws)
     {- returns-2 -}
-    (λ c. search write-laws))
+    (λ c. search answer-laws))

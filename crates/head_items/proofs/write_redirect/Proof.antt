@@ -1,5 +1,5 @@
 -- `head_items::write_redirect` meets its contract.
-use Rattle.head_items.proofs.WriteLaws.{write-laws}
+use Rattle.head_items.proofs.WriteLaws.{redirect-laws}
 use Rattle.head_items.proofs.write_redirect.Statement.{statement}
 use Rattle.head_items.proofs.write_redirect.Tie as tie
 
@@ -8,32 +8,32 @@ write-redirect-spec =
     tie.close
     (tie.spec
     {- has-room-requires -}
-    (λ c κs. search write-laws)
+    (λ c κs. search redirect-laws)
     {- high-requires -}
-    (λ c κs. search write-laws)
+    (λ c κs. search redirect-laws)
     {- low-requires -}
-    (λ c κs. search write-laws)
+    (λ c κs. search redirect-laws)
     {- seen-requires -}
-    (λ c κs. search write-laws)
+    (λ c κs. search redirect-laws)
     {- high-requires-2 -}
-    (λ c κs. search write-laws)
+    (λ c κs. search redirect-laws)
     {- low-requires-2 -}
-    (λ c κs. search write-laws)
+    (λ c κs. search redirect-laws)
     {- high-requires-3 -}
-    (λ c κs. search write-laws)
+    (λ c κs. search redirect-laws)
     {- low-requires-3 -}
-    (λ c κs. search write-laws)
+    (λ c κs. search redirect-laws)
     {- slice-aggregate-write-bytes -}
-    (λ c. search write-laws)
+    (λ c. search redirect-laws)
     {- write-bytes-requires -}
-    (λ c κs. search write-laws)
+    (λ c κs. search redirect-laws)
     {- write-bytes-requires-2 -}
-    (λ c κs. search write-laws)
+    (λ c κs. search redirect-laws)
     {- same-length -}
-    (λ c. search write-laws)
+    (λ c. search redirect-laws)
     {- same-length-2 -}
-    (λ c. search write-laws)
+    (λ c. search redirect-laws)
     {- returns -}
-    (λ c. search write-laws)
+    (λ c. search redirect-laws)
     {- returns-2 -}
-    (λ c. search write-laws))
+    (λ c. search redirect-laws))
