@@ -16,7 +16,7 @@ use Rattle.refusals.specs.declared.Refusal.the-variants.{Full, BadHead}
 use Rattle.head_items.specs.HeadItem.{twoBytes, seen, itemOf, locationText, startFits, HeadItem, refused, written, fitting, itemFor, itemAfter, textAfter}
 use Rattle.response_head.specs.ResponseHead.{Head, redirect, answer}
 use Rattle.response_head.specs.code.Meaning.{headIn, HeadPlaced, a-redirect, ReadsHead}
-use Rattle.head_items.specs.code.Meaning.{hasRoom, lengthsOf, Answers, WritesAnswer}
+use Rattle.head_items.specs.code.Meaning.{hasRoom, redirectItem, lengthsOf, Answers, WritesAnswer}
 use Rattle.response_head.specs.declared.Reading.{Reading}
 use Rattle.response_head.specs.declared.Reading.the-variants.{Redirect, Answer, Malformed as NoHead}
 use Rattle.head_items.specs.declared.Lengths.{Lengths}
@@ -94,22 +94,32 @@ room-told start size i t e =
     let q = and-eq-true-iff (leb 8 i) (leb size t) .0 (p .0) in
     record { for-item = leb-true 8 i (q .0); for-text = leb-true size t (q .1); for-start = leb-true start 65535 (p .1) }
 
-module _ (start status : ℕ) (authorized : Bool) (loc item lent : Bytes) {r : Bool} (t : r ≡ hasRoom start (length loc) (length item) (length lent)) where
-  pub redirect-full : r ≡ false → Answers start (some (redirect status authorized loc)) item item lent lent (Refused Full)
-  unfolding itemFor fitting itemOf twoBytes locationText startFits hasRoom
-  redirect-full f = answers-refused start (some (redirect status authorized loc)) item lent (rw (sym t ∙ f))
+pub item-is : (status start size : ℕ) (authorized : Bool) {a b c d e f g : ℕ}
+    → a ≡ status / 256 % 256 → b ≡ status % 256 → c ≡ seen authorized → d ≡ start / 256 % 256 → e ≡ start % 256 → f ≡ size / 256 % 256 → g ≡ size % 256
+    → 1 ∷ a ∷ b ∷ c ∷ d ∷ e ∷ f ∷ g ∷ [] ≡ redirectItem status authorized start size
+unfolding redirectItem twoBytes
+item-is status start size authorized i j k l m n o = rw (i, j, k, l, m, n, o)
 
-  pub redirect-written : {item₁ lent₁ : Bytes} {a b c d e f g p q : ℕ}
-      → a ≡ status / 256 % 256 → b ≡ status % 256 → c ≡ seen authorized → d ≡ start / 256 % 256 → e ≡ start % 256 → f ≡ length loc / 256 % 256 → g ≡ length loc % 256
-      → Wrote (1 ∷ a ∷ b ∷ c ∷ d ∷ e ∷ f ∷ g ∷ []) 0 item item₁ p → Wrote loc 0 lent lent₁ q → r ≡ true
+module _ (start status : ℕ) (authorized : Bool) (loc item lent : Bytes) where
+  -- what is put where there is room
+  pub redirect-put : {bytes item₁ lent₁ : Bytes} {p q : ℕ} → hasRoom start (length loc) (length item) (length lent) ≡ true
+      → bytes ≡ redirectItem status authorized start (length loc) → Wrote bytes 0 item item₁ p → Wrote loc 0 lent lent₁ q
       → Answers start (some (redirect status authorized loc)) item item₁ lent lent₁ (Written 8 (length loc))
-  unfolding itemFor fitting itemOf twoBytes locationText startFits
-  redirect-written i j k l m n o W U v =
-      let R = room-told start (length loc) (length item) (length lent) (sym t ∙ v) in
+  unfolding itemFor fitting itemOf redirectItem twoBytes locationText startFits
+  redirect-put h e W U =
+      let R = room-told start (length loc) (length item) (length lent) h in
       let x : Bytes = 1 ∷ status / 256 % 256 ∷ status % 256 ∷ seen authorized ∷ start / 256 % 256 ∷ start % 256 ∷ length loc / 256 % 256 ∷ length loc % 256 ∷ [] in
-      let X : Wrote x 0 item _ _ = rw (i, j, k, l, m, n, o) at W in
+      let X : Wrote x 0 item _ _ = rw e at W in
       rw (over-is X (R .for-item), over-is U (R .for-text))
       (answers-written start (some (redirect status authorized loc)) item lent {x = x} {y = loc} (rw (le-leb 8 (length item) (R .for-item), le-leb (length loc) (length lent) (R .for-text), le-leb start 65535 (R .for-start))))
+
+  module _ {r : Bool} (t : r ≡ hasRoom start (length loc) (length item) (length lent)) where
+    pub redirect-room : r ≡ true → hasRoom start (length loc) (length item) (length lent) ≡ true
+    redirect-room f = sym t ∙ f
+
+    pub redirect-full : r ≡ false → Answers start (some (redirect status authorized loc)) item item lent lent (Refused Full)
+    unfolding itemFor fitting itemOf twoBytes locationText startFits hasRoom
+    redirect-full f = answers-refused start (some (redirect status authorized loc)) item lent (rw (sym t ∙ f))
 
 -- ---- a head
 
@@ -144,10 +154,12 @@ module _ (s : Bytes) (o : Option Head) {q : Reading} (R : ReadsHead s o q) where
     unfolding headIn
     head-redirect A = let z : o ≡ some (redirect n w (take (b - a) (drop a s))) = sym (R .is) ∙ rw k in rw z A
 
-pub ruleset byte-laws = (seen-true, seen-false, room-item, room-text, room-start, needs)
+pub ruleset byte-laws = (seen-true, seen-false, room-item, room-text, room-start, item-is, needs)
 
 pub ruleset answer-laws = (answer-short, answer-written, needs)
 
-pub ruleset redirect-laws = (redirect-full, redirect-written, needs)
+pub ruleset put-laws = (redirect-put, needs)
+
+pub ruleset redirect-laws = (redirect-room, redirect-full, needs)
 
 pub ruleset head-laws = (head-refused, head-answer, head-low, head-high, head-redirect, needs)

@@ -3,10 +3,12 @@ use refusals::Refusal;
 use response_head::Reading;
 ghost use mathlib.Core.Path.{_≡_};
 ghost use mathlib.Core.Option.{some};
+ghost use mathlib.Core.Bool.{true};
 ghost use Prim.Native.Nat.{_/_, _%_};
+ghost use lib.ListN.{length};
 ghost use Rattle.response_head.specs.ResponseHead.{redirect, readHead};
 ghost use Rattle.head_items.specs.HeadItem.{seen};
-ghost use Rattle.head_items.specs.code.Meaning.{hasRoom, WritesAnswer, Answers};
+ghost use Rattle.head_items.specs.code.Meaning.{hasRoom, redirectItem, WritesAnswer, Answers};
 
 // The lengths of the item and of the Location text that are written.
 pub enum Lengths {
@@ -59,7 +61,44 @@ fn has_room(start: u32, size: usize, item: usize, text: usize) -> bool
     start <= 65535
 }
 
-// Kind 1, and its Location text.
+// Kind 1: status, authorized header seen, start and length of its Location.
+fn redirect_item(status: u16, authorized: bool, start: u32, size: usize) -> [u8; 8]
+    ensures { λ r. ⌜ r ≡ redirectItem status authorized start size ⌝ }
+{
+    let n = status as usize;
+    let from = start as usize;
+    [
+        1,
+        high(n),
+        low(n),
+        seen(authorized),
+        high(from),
+        low(from),
+        high(size),
+        low(size),
+    ]
+}
+
+// The item and its Location text, where there is room for both.
+fn put_redirect(
+    status: u16,
+    authorized: bool,
+    location: &[u8],
+    start: u32,
+    item: &mut [u8],
+    text: &mut [u8],
+) -> Lengths
+    requires { ⌜ hasRoom start (length (now location)) (length (now item)) (length (now text)) ≡ true ⌝ }
+    ensures { λ r. ⌜ Answers start (some (redirect status authorized (now (location .entry)))) (now (item .entry)) (now (item .exit)) (now (text .entry)) (now (text .exit)) r ⌝ }
+{
+    let size = location.len();
+    let bytes = redirect_item(status, authorized, start, size);
+    origin::normal::write_bytes(&bytes, item, 0);
+    origin::normal::write_bytes(location, text, 0);
+    Lengths::Written(8, size)
+}
+
+// The same, or nothing.
 fn write_redirect(
     status: u16,
     authorized: bool,
@@ -70,23 +109,8 @@ fn write_redirect(
 ) -> Lengths
     ensures { λ r. ⌜ Answers start (some (redirect status authorized (now (location .entry)))) (now (item .entry)) (now (item .exit)) (now (text .entry)) (now (text .exit)) r ⌝ }
 {
-    let size = location.len();
-    if has_room(start, size, item.len(), text.len()) {
-        let n = status as usize;
-        let from = start as usize;
-        let bytes = [
-            1,
-            high(n),
-            low(n),
-            seen(authorized),
-            high(from),
-            low(from),
-            high(size),
-            low(size),
-        ];
-        origin::normal::write_bytes(&bytes, item, 0);
-        origin::normal::write_bytes(location, text, 0);
-        return Lengths::Written(8, size);
+    if has_room(start, location.len(), item.len(), text.len()) {
+        return put_redirect(status, authorized, location, start, item, text);
     }
     Lengths::Refused(Refusal::Full)
 }

@@ -17,10 +17,17 @@ write-numbers-spec =
     (tie.spec
     Inv-loop
     μ-loop
-    {- loop-holds -} (λ c. search needs)
-    {- shared-slice-read-write-number -} (λ c. search needs)
-    {- write-number-requires -} (λ c κs. search needs)
-    {- add-i -} (λ c. search needs)
-    {- loop-less -} (λ c. search needs)
-    {- loop-again -} (λ c. search needs)
-    {- returns -} (λ c. search needs))
+    {- loop-holds -}
+    (λ c. search needs)
+    {- shared-slice-read-write-number -}
+    (λ c. search needs)
+    {- write-number-requires -}
+    (λ c κs. search needs)
+    {- add-i -}
+    (λ c. search needs)
+    {- loop-less -}
+    (λ c. search needs)
+    {- loop-again -}
+    (λ c. search needs)
+    {- returns -}
+    (λ c. search needs))

@@ -6,34 +6,4 @@ use Rattle.head_items.proofs.write_redirect.Tie as tie
 pub write-redirect-spec : {M : Type 1} → statement M
 write-redirect-spec =
     tie.close
-    (tie.spec
-    {- has-room-requires -}
-    (λ c κs. search redirect-laws)
-    {- high-requires -}
-    (λ c κs. search redirect-laws)
-    {- low-requires -}
-    (λ c κs. search redirect-laws)
-    {- seen-requires -}
-    (λ c κs. search redirect-laws)
-    {- high-requires-2 -}
-    (λ c κs. search redirect-laws)
-    {- low-requires-2 -}
-    (λ c κs. search redirect-laws)
-    {- high-requires-3 -}
-    (λ c κs. search redirect-laws)
-    {- low-requires-3 -}
-    (λ c κs. search redirect-laws)
-    {- slice-aggregate-write-bytes -}
-    (λ c. search redirect-laws)
-    {- write-bytes-requires -}
-    (λ c κs. search redirect-laws)
-    {- write-bytes-requires-2 -}
-    (λ c κs. search redirect-laws)
-    {- same-length -}
-    (λ c. search redirect-laws)
-    {- same-length-2 -}
-    (λ c. search redirect-laws)
-    {- returns -}
-    (λ c. search redirect-laws)
-    {- returns-2 -}
-    (λ c. search redirect-laws))
+    (tie.spec {- has-room-requires -} (λ c κs. search redirect-laws) {- put-redirect-requires -} (λ c κs. search redirect-laws) {- same-length -} (λ c. search redirect-laws) {- same-length-2 -} (λ c. search redirect-laws) {- returns -} (λ c. search redirect-laws) {- returns-2 -} (λ c. search redirect-laws))
