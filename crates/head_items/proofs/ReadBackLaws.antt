@@ -1,21 +1,21 @@
 -- The record reader reads written items back as just what the heads say. Assumes nothing.
-use mathlib.Core.Path.{_≡_, refl, sym, ap, _∙_}
-use mathlib.Core.Bool.{Bool, true, false, _&&_}
+use mathlib.Core.Path.{_≡_, refl, sym, _∙_}
+use mathlib.Core.Bool.{Bool, true, false}
 use mathlib.Core.List.{List, [], _∷_, _++_, map, append-nil, append-assoc}
 use mathlib.Core.Option.{Option, none, some}
 use Prim.Native.Nat.{ℕ, zero, suc, _+_, _-_, _*_, _/_, _%_, _≤_}
 use native.Mathlib.Omega.{arith}
-use lib.ListN.{length, take, drop}
+use lib.ListN.{length}
 use lib.Dec.{leb}
 use borrow.Author.Tests.{le-leb, leb-true}
-use Rattle.ascii.specs.Ascii.{Bytes, if_then_else_, _>>=_, all, beginsWith}
+use Rattle.ascii.specs.Ascii.{Bytes, _>>=_, all, beginsWith}
 use Rattle.fetch_record.specs.Record.{Redirect, Answer, Fetched, number, readRedirect, readAnswer, readEnd, inFront, readItems, inText, location, readRecord}
 use Rattle.fetch_record.specs.code.Meaning.{behind}
 use Rattle.fetch_record.proofs.RecordLaws.{behind-nil}
 use Rattle.response_head.specs.ResponseHead.{Head, redirect, answer}
 use Rattle.response_head.proofs.HeadBounds.{RedirectRead, redirect-bounds, answer-bound}
 use Rattle.head_items.specs.HeadItem.{twoBytes, seen, itemOf, startFits, written, itemFor, headItem}
-use Rattle.head_items.specs.ReadBack.{Holds, HoldsLocation, startsOf, Item, redirectSaid, answerSaid, saidBy, RedirectItems, no-redirect, next-redirect, AnswerItem, no-answer, one-answer, ReadsBack}
+use Rattle.head_items.specs.ReadBack.{HoldsLocation, startsOf, Item, redirectSaid, answerSaid, RedirectItems, no-redirect, next-redirect, AnswerItem, no-answer, one-answer, ReadsBack}
 use Rattle.head_items.proofs.Written.{WrittenOf, written-told}
 
 -- ---- one item
@@ -56,9 +56,9 @@ answer-items start status t zero h = rw (answer-read status h t)
 answer-items start status t (suc n) h = rw (answer-read status h t)
 
 item-told : {start : ℕ} {h : Head} {item : Bytes} → (I : Item start h item) → WrittenOf start h item (I .location)
-item-told {start} {h} {item} I = written-told start (I .before) (I .lent) h item (I .location) go
+item-told {start} {h} {item} I = written-told start (I .itemBefore) (I .textBefore) h item (I .location) go
   where
-    go : itemFor start (I .before) (I .lent) (some h) ≡ written item (I .location)
+    go : itemFor start (I .itemBefore) (I .textBefore) (some h) ≡ written item (I .location)
     go = unfold headItem in (rw (I .reads) at (I .writes))
 
 start-small : (start status : ℕ) (a : Bool) (x : Bytes) → startFits start (redirect status a x) ≡ true → start ≤ 65535

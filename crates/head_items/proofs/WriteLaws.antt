@@ -1,7 +1,7 @@
 -- The item and the Location text, written. Assumes nothing.
-use mathlib.Core.Path.{_≡_, refl, sym, ap, _∙_}
+use mathlib.Core.Path.{_≡_, refl, sym, _∙_}
 use mathlib.Core.Bool.{Bool, true, false, _&&_, and-false, and-eq-true-iff}
-use mathlib.Core.List.{List, [], _∷_, _++_}
+use mathlib.Core.List.{[], _∷_}
 use mathlib.Core.Option.{Option, none, some}
 use Prim.Native.Nat.{ℕ, _+_, _-_, _/_, _%_, _≤_, _<_}
 use native.Mathlib.Omega.{arith}
@@ -9,11 +9,11 @@ use lib.ListN.{length, take, drop}
 use lib.Dec.{leb}
 use borrow.Author.Needs.{needs}
 use borrow.Author.Tests.{le-leb, lt-leb, leb-true}
-use Rattle.ascii.specs.Ascii.{Bytes, if_then_else_, writtenOver}
+use Rattle.ascii.specs.Ascii.{Bytes, writtenOver}
 use Rattle.origin.specs.code.Parts.{Wrote}
 use Rattle.origin.proofs.Writings.{wrote-is}
 use Rattle.refusals.specs.declared.Refusal.the-variants.{Full, BadHead}
-use Rattle.head_items.specs.HeadItem.{twoBytes, seen, itemOf, locationText, startFits, HeadItem, refused, written, fitting, itemFor, itemAfter, textAfter}
+use Rattle.head_items.specs.HeadItem.{twoBytes, seen, itemOf, locationText, startFits, refused, written, fitting, itemFor}
 use Rattle.response_head.specs.ResponseHead.{Head, redirect, answer}
 use Rattle.response_head.specs.code.Meaning.{headIn, HeadPlaced, a-redirect, ReadsHead}
 use Rattle.head_items.specs.code.Meaning.{hasRoom, redirectItem, lengthsOf, Answers, WritesAnswer}

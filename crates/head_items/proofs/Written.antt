@@ -1,7 +1,6 @@
 -- What is written of a head. Assumes nothing.
-use mathlib.Core.Path.{_≡_, refl, ap}
+use mathlib.Core.Path.{_≡_, refl}
 use mathlib.Core.Bool.{Bool, true, false, _&&_}
-use mathlib.Core.List.{_∷_, _++_}
 use mathlib.Core.Option.{Option, none, some}
 use Prim.Native.Nat.{ℕ, _≤_}
 use native.Mathlib.Omega.{arith}
@@ -10,8 +9,8 @@ use lib.Dec.{leb}
 use Rattle.ascii.specs.Ascii.{Bytes, if_then_else_}
 use Rattle.refusals.specs.declared.Refusal.the-variants.{Full}
 use Rattle.response_head.specs.ResponseHead.{Head, redirect, answer, readHead}
-use Rattle.response_head.proofs.HeadBounds.{RedirectRead, redirect-bounds}
-use Rattle.head_items.specs.HeadItem.{twoBytes, itemOf, locationText, startFits, HeadItem, refused, written, fitting, itemFor, headItem}
+use Rattle.response_head.proofs.HeadBounds.{redirect-bounds}
+use Rattle.head_items.specs.HeadItem.{twoBytes, itemOf, locationText, startFits, refused, written, fitting, itemFor, headItem}
 
 -- what is written is the head's item and its Location, and a redirect's start fits
 pub record WrittenOf (start : ℕ) (h : Head) (item x : Bytes) : Type 0 where

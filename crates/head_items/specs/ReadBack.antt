@@ -1,5 +1,6 @@
 -- What the record reader is to read of written items: just what the heads say (document 02, S-2).
 use mathlib.Core.Path.{_≡_}
+use mathlib.Core.Bool.{Bool}
 use mathlib.Core.List.{List, [], _∷_, _++_, map}
 use mathlib.Core.Option.{Option, none, some}
 use Prim.Native.Nat.{ℕ, _+_, _≤_}
@@ -27,11 +28,11 @@ startsOf start (answer status typeSeen) = []
 -- a call that is not refused, with this start and whatever outputs: its head says h, and this item is written
 pub record Item (start : ℕ) (h : Head) (item : Bytes) : Type 0 where
   pub head : Bytes
-  pub before : Bytes
-  pub lent : Bytes
+  pub itemBefore : Bytes
+  pub textBefore : Bytes
   pub location : Bytes
   pub reads : readHead head ≡ some h
-  pub writes : headItem head start before lent ≡ written item location
+  pub writes : headItem head start itemBefore textBefore ≡ written item location
 
 -- ---- what a record says
 
@@ -53,14 +54,14 @@ saidBy lent f = map (redirectSaid lent) (f .redirects) ++ answerSaid (f .answer)
 -- heads say, and the items
 pub data RedirectItems (lent : Bytes) : List ℕ → List Head → Bytes → Type 0 where
   no-redirect : RedirectItems lent [] [] []
-  next-redirect : {start status : ℕ} {authorized : _} {x item items : Bytes} {starts : List ℕ} {hs : List Head}
+  next-redirect : {start status : ℕ} {authorized : Bool} {x item items : Bytes} {starts : List ℕ} {hs : List Head}
       → Item start (redirect status authorized x) item → Holds lent start x → RedirectItems lent starts hs items
       → RedirectItems lent (start ∷ starts) (redirect status authorized x ∷ hs) (item ++ items)
 
 -- at most one answer head, not refused, whatever start was given with it: what it says, and its item
 pub data AnswerItem : List Head → Bytes → Type 0 where
   no-answer : AnswerItem [] []
-  one-answer : {start status : ℕ} {typeSeen : _} {item : Bytes} → Item start (answer status typeSeen) item → AnswerItem (answer status typeSeen ∷ []) item
+  one-answer : {start status : ℕ} {typeSeen : Bool} {item : Bytes} → Item start (answer status typeSeen) item → AnswerItem (answer status typeSeen ∷ []) item
 
 -- these items are read as a record that says just these heads in order, each redirect's Location at its start
 pub record ReadsBack (items lent : Bytes) (starts : List ℕ) (hs : List Head) : Type 0 where

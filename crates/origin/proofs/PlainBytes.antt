@@ -1,12 +1,12 @@
 -- The normal form of a facet is printable ASCII that a JSON string holds as it is. Assumes nothing.
 use mathlib.Core.Path.{_≡_, refl, sym, ap, _∙_}
-use mathlib.Core.List.{[], _∷_, _++_}
-use mathlib.Core.Bool.{Bool, true, false, _&&_, _||_, and-false, and-eq-true-iff}
+use mathlib.Core.List.{[], _++_}
+use mathlib.Core.Bool.{Bool, true, false, _&&_, _||_, and-eq-true-iff}
 use mathlib.Core.Option.{Option, none, some}
-use Prim.Native.Nat.{ℕ, _≤_, _<_}
+use Prim.Native.Nat.{ℕ, _≤_}
 use native.Mathlib.Omega.{arith}
 use lib.ListN.{length, drop}
-use lib.Dec.{T, eqb, leb}
+use lib.Dec.{eqb}
 use borrow.Author.Tests.{ne-eqb}
 use Rattle.ascii.specs.Ascii.{Bytes, if_then_else_, isEmpty, all, between, isDigit, isUpper, isLetter, same, lower, beginsWith, text}
 use Rattle.ascii.proofs.Bytes.{implies, each, passes, digit-small, letter-small}

@@ -1,21 +1,21 @@
 -- Byte classes, runs of bytes, blanks at the end, and forms. Assumes nothing.
 use mathlib.Core.Path.{_≡_, refl, sym, _∙_}
-use mathlib.Core.Bool.{Bool, true, false, _&&_, _||_, not, and-true, and-false, and-eq-true-iff}
+use mathlib.Core.Bool.{Bool, true, false, _&&_, _||_, not, and-true, and-false}
 use mathlib.Core.List.{[], _∷_, _++_}
-use Prim.Native.Nat.{ℕ, zero, suc, _+_, _-_, _≤_, _<_}
+use Prim.Native.Nat.{ℕ, suc, _+_, _-_, _≤_, _<_}
 use native.Mathlib.Numerals.{add-one}
 use native.Mathlib.Omega.{arith}
 use lib.ListN.{length, getD, take, drop, length-drop, drop-of-length-le}
 use lib.Seq.{drop-cons, take-suc, take-all, getD-drop}
 use lib.Dec.{eqb, leb, ltb}
 use borrow.Author.Needs.{needs}
-use borrow.Author.Tests.{eq-eqb, ne-eqb, lt-ltb, le-ltb, le-leb, lt-leb}
-use Rattle.ascii.specs.Ascii.{Bytes, if_then_else_, all, among, isDigit, isLetter, isUpper, lowerByte, text}
+use borrow.Author.Tests.{eq-eqb, ne-eqb, lt-ltb, le-leb}
+use Rattle.ascii.specs.Ascii.{Bytes, all, among, isDigit, isLetter, isUpper, lowerByte, text}
 use Rattle.ascii.proofs.Bytes.{agree-where}
 use Rattle.ascii.proofs.ListLaws.{all-both}
 use Rattle.ascii.proofs.Compare.{by-starts, by-ends, by-differs, by-more}
 use Rattle.ascii.proofs.Scan.{scan-end, scan-stop, scan-more}
-use Rattle.response_head.specs.ResponseHead.{isBlank, isTextByte, isTchar, isOther, trimEnd, fitsByte, fitsForm}
+use Rattle.response_head.specs.ResponseHead.{isBlank, isTextByte, isTchar, trimEnd, fitsByte}
 use Rattle.response_head.specs.code.Meaning.{isAlphanumeric, inRun, Trims}
 use Rattle.response_head.specs.declared.Run.{Run}
 use Rattle.response_head.specs.declared.Run.the-variants.{Blank, Text, Tchar, Other}

@@ -1,22 +1,22 @@
 -- One status line, one field line, one field more. Assumes nothing.
-use mathlib.Core.Path.{_≡_, refl, sym, ap, _∙_}
+use mathlib.Core.Path.{_≡_, refl, sym, _∙_}
 use mathlib.Core.Bool.{Bool, true, false, _&&_, not, and-true, and-false, and-eq-true-iff}
-use mathlib.Core.List.{List, [], _∷_, _++_}
-use mathlib.Core.Option.{none, some}
-use Prim.Native.Nat.{ℕ, zero, suc, _+_, _-_, _≤_, _<_}
+use mathlib.Core.List.{[], _∷_, _++_}
+use mathlib.Core.Option.{none}
+use Prim.Native.Nat.{ℕ, _+_, _-_, _≤_, _<_}
 use native.Mathlib.Omega.{arith}
 use lib.ListN.{length, getD, take, drop, drop-of-length-le, take-append-drop}
 use lib.Seq.{drop-cons, drop-drop, take-take, length-take-le}
 use lib.Dec.{eqb, leb}
 use borrow.Author.Needs.{needs}
-use borrow.Author.Tests.{eq-eqb, ne-eqb, eqb-true, leb-true}
-use Rattle.ascii.specs.Ascii.{Bytes, if_then_else_, _when_, all, isEmpty, takeWhile, dropWhile, among, isDigit, isLetter, isUpper, same, sameNoCase, lower, beginsWith, beginsBy, text, number16}
+use borrow.Author.Tests.{ne-eqb, eqb-true, leb-true}
+use Rattle.ascii.specs.Ascii.{Bytes, if_then_else_, _when_, all, isEmpty, takeWhile, dropWhile, among, isDigit, isLetter, isUpper, same, sameNoCase, beginsWith, beginsBy, text, number16}
 use Rattle.ascii.specs.code.Numbers.{numberOf}
 use Rattle.ascii.specs.declared.decimals.Number.{Number}
 use Rattle.ascii.specs.declared.decimals.Number.the-variants.{Malformed}
 use Rattle.ascii.proofs.Bytes.{implies, each, passes, digit-small, letter-small}
 use Rattle.ascii.proofs.Compare.{by-short}
-use Rattle.ascii.proofs.ListLaws.{all-both, all-append, all-weaker, all-drop}
+use Rattle.ascii.proofs.ListLaws.{all-append, all-weaker, all-drop}
 use Rattle.ascii.proofs.Scan.{while-all, while-rest, while-part, while-length, scan-to, scan-rest}
 use Rattle.response_head.specs.ResponseHead.{isBlank, isTextByte, isTchar, isOther, fitsByte, fitsForm, statusForm, readStatus, trimEnd, trim, Field, fieldOf, readField, isListType, isTrue, authorizedName, typeName, locationName}
 use Rattle.response_head.specs.code.Meaning.{Trims, fieldIn, no-field, field, ReadsField, firstBy, isRight, placeBy, seenWith}

@@ -9,7 +9,7 @@ use lib.ListN.{length, take, drop, length-drop}
 use lib.Dec.{eqb, leb}
 use borrow.Author.Tests.{leb-true}
 use Rattle.ascii.specs.Ascii.{Bytes, if_then_else_, _>>=_, _when_, all, isEmpty, takeWhile, dropWhile, joinHead, between, isDigit, sameNoCase, beginsWith, text, value, number16}
-use Rattle.ascii.proofs.OptionLaws.{Chained, chained}
+use Rattle.ascii.proofs.OptionLaws.{chained}
 use Rattle.ascii.proofs.Split.{Parts}
 use Rattle.ascii.proofs.Scan.{while-rest}
 use Rattle.response_head.specs.ResponseHead.{isTextByte, isTchar, isBlank, linesOf, fitsForm, statusForm, readStatus, trimEnd, trim, Field, fieldOf, readField, isEnd, readFields, valuesOf, locationName, only, authorizedName, typeName, firstPasses, isTrue, isListType, Head, redirect, answer, headOf, readLines, readHead}

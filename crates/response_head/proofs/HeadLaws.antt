@@ -3,25 +3,23 @@ use mathlib.Core.Path.{_≡_, refl, sym, ap, _∙_}
 use mathlib.Core.Bool.{Bool, true, false, _&&_, and-false}
 use mathlib.Core.List.{List, [], _∷_, _++_, append-nil, append-assoc}
 use mathlib.Core.Option.{Option, none, some}
-use Prim.Native.Nat.{ℕ, zero, suc, _+_, _-_, _^_, _≤_, _<_}
+use Prim.Native.Nat.{ℕ, _+_, _-_, _^_, _≤_, _<_}
 use native.Mathlib.Omega.{arith}
 use lib.ListN.{length, take, drop, length-drop, drop-of-length-le}
 use lib.Seq.{length-take-le}
-use lib.Dec.{eqb, leb}
+use lib.Dec.{eqb}
 use mir.Syntax.{w64}
 use mir.Val.{Fits}
 use borrow.Author.Needs.{needs}
 use borrow.Author.Tests.{le-leb, lt-leb}
 use Rattle.ascii.specs.Ascii.{Bytes, if_then_else_, _>>=_, _when_, all, isEmpty, takeWhile, joinHead, between, beginsWith}
 use Rattle.ascii.proofs.Split.{Parts}
-use Rattle.response_head.specs.ResponseHead.{isTextByte, linesOf, readStatus, Field, readField, isEnd, readFields, valuesOf, firstPasses, isTrue, isListType, only, authorizedName, typeName, locationName, Head, redirect, answer, headOf, readLines, readHead}
-use Rattle.response_head.specs.code.Meaning.{firstOf, isRight, PlaceIs, nowhere, one, several, Sees, FieldsRead, no-fields, fields, TextLine, Adds, headIn, no-head, an-answer, a-redirect, ReadsHead, Makes}
+use Rattle.response_head.specs.ResponseHead.{isTextByte, linesOf, readStatus, Field, readField, isEnd, readFields, valuesOf, firstPasses, isTrue, isListType, only, authorizedName, typeName, locationName, headOf, readLines, readHead}
+use Rattle.response_head.specs.code.Meaning.{firstOf, isRight, PlaceIs, nowhere, one, several, Sees, FieldsRead, no-fields, fields, Adds, headIn, no-head, an-answer, a-redirect, ReadsHead, Makes}
 use Rattle.ascii.specs.code.Numbers.{numberOf}
 use Rattle.ascii.specs.declared.decimals.Number.{Number}
 use Rattle.ascii.specs.declared.decimals.Number.the-variants.{Value, Malformed as NoNumber}
-use Rattle.response_head.specs.declared.First.{First}
 use Rattle.response_head.specs.declared.First.the-variants.{Unseen, Right, Wrong}
-use Rattle.response_head.specs.declared.Place.{Place}
 use Rattle.response_head.specs.declared.Place.the-variants.{Nowhere, Between, Several}
 use Rattle.response_head.specs.declared.Seen.{Seen}
 use Rattle.response_head.specs.declared.Fields.{Fields}

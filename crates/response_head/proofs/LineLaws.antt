@@ -1,35 +1,29 @@
 -- Lines between CRLFs, and one field more. Assumes nothing.
 use mathlib.Core.Path.{_≡_, refl, sym, ap, _∙_}
-use mathlib.Core.Bool.{Bool, true, false, _&&_, not, and-true, and-false, and-eq-true-iff}
-use mathlib.Core.List.{List, [], _∷_, _++_, append-nil, append-assoc}
-use mathlib.Core.Option.{Option, none, some}
-use Prim.Native.Nat.{ℕ, zero, suc, _+_, _-_, _*_, _^_, _≤_, _<_}
-use native.Mathlib.Numerals.{add-one}
+use mathlib.Core.Bool.{Bool, true, false, _&&_, and-true, and-false, and-eq-true-iff}
+use mathlib.Core.List.{List, [], _∷_, _++_, append-nil}
+use mathlib.Core.Option.{some}
+use Prim.Native.Nat.{ℕ, zero, suc, _+_, _-_, _^_, _≤_, _<_}
 use native.Mathlib.Omega.{arith}
-use lib.ListN.{length, getD, take, drop, length-drop, drop-of-length-le}
-use lib.Seq.{drop-cons, drop-drop, take-all, take-take, length-take-le}
-use lib.Dec.{eqb, leb}
+use lib.ListN.{length, take, drop, length-drop}
+use lib.Seq.{drop-drop, take-all, take-take, length-take-le}
+use lib.Dec.{eqb}
 use mir.Syntax.{w64}
 use mir.Val.{Fits}
 use borrow.Author.Needs.{needs}
-use borrow.Author.Tests.{eq-eqb, ne-eqb, eqb-true, le-leb, lt-leb}
-use Rattle.ascii.specs.Ascii.{Bytes, if_then_else_, _>>=_, _when_, all, isEmpty, takeWhile, dropWhile, joinHead, between, same, sameNoCase, lower, lowerByte, isUpper, beginsWith, text}
-use Rattle.ascii.proofs.Scan.{while-all, while-rest, while-part, while-length, while-stops, scan-to, scan-from, scan-rest, scan-part}
+use borrow.Author.Tests.{ne-eqb, eqb-true}
+use Rattle.ascii.specs.Ascii.{Bytes, if_then_else_, all, takeWhile, dropWhile, joinHead, same, sameNoCase, lower, lowerByte, isUpper, beginsWith}
+use Rattle.ascii.proofs.Scan.{while-all, while-stops, scan-to, scan-from, scan-rest, scan-part}
 use Rattle.ascii.proofs.Split.{Parts, onFirst}
 use Rattle.ascii.proofs.Compare.{same-eq}
-use Rattle.response_head.specs.ResponseHead.{isTextByte, isBlank, linesOf, readStatus, Field, readField, isEnd, readFields, valuesOf, firstPasses, isTrue, isListType, only, authorizedName, typeName, locationName, Head, redirect, answer, headOf, readLines, readHead}
-use Rattle.response_head.specs.code.Meaning.{fieldIn, FieldPlaced, field, ReadsField, firstOf, firstBy, isRight, PlaceIs, nowhere, one, several, placeBy, seenWith, Sees, FieldsRead, no-fields, fields, TextLine, Adds, headIn, no-head, an-answer, a-redirect, ReadsHead, Makes}
+use Rattle.response_head.specs.ResponseHead.{isTextByte, isBlank, linesOf, Field, readField, valuesOf, authorizedName, typeName, locationName}
+use Rattle.response_head.specs.code.Meaning.{fieldIn, FieldPlaced, field, ReadsField, firstOf, firstBy, PlaceIs, nowhere, one, several, placeBy, seenWith, Sees, no-fields, fields, TextLine, Adds}
 use Rattle.response_head.specs.declared.FieldLine.{FieldLine}
 use Rattle.response_head.specs.declared.FieldLine.the-variants.{Parts as Placed, Malformed as NoField}
-use Rattle.response_head.specs.declared.First.{First}
 use Rattle.response_head.specs.declared.First.the-variants.{Unseen, Right, Wrong}
 use Rattle.response_head.specs.declared.Place.{Place}
-use Rattle.response_head.specs.declared.Place.the-variants.{Nowhere, Between, Several}
 use Rattle.response_head.specs.declared.Seen.{Seen}
-use Rattle.response_head.specs.declared.Fields.{Fields}
 use Rattle.response_head.specs.declared.Fields.the-variants.{Read, Malformed as NoFields}
-use Rattle.response_head.specs.declared.Reading.{Reading}
-use Rattle.response_head.specs.declared.Reading.the-variants.{Redirect, Answer, Malformed as NoHead}
 
 -- ---- lines
 
