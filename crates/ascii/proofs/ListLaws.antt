@@ -6,7 +6,7 @@ use Prim.Native.Nat.{ℕ, _-_, _<_, _≤_}
 use native.Mathlib.Omega.{arith}
 use lib.ListN.{length, take, drop, length-drop, drop-of-length-le, take-append-drop}
 use lib.Seq.{take-all, take-nil}
-use Rattle.ascii.specs.Ascii.{Bytes, if_then_else_, all, filterBy}
+use Rattle.ascii.specs.Ascii.{Bytes, if_then_else_, all, isEmpty, filterBy}
 
 module _ {A : Type 0} (p : A → Bool) where
   pub all-both : (x y : List A) → all p (x ++ y) ≡ (all p x && all p y)
@@ -53,6 +53,19 @@ module _ {A : Type 0} (p : A → Bool) where
   unfolding all
   all-mapped q f h [] e = refl
   all-mapped q f h (x ∷ l) e = let k = and-eq-true-iff (p x) (all p l) .0 e in rw (h x (k .0), all-mapped q f h l (k .1))
+
+-- ---- empty or not
+
+pub empty-is : (s : Bytes) → length s ≡ 0 → isEmpty s ≡ true
+empty-is [] e = refl
+empty-is (b ∷ s) e = absurd (omega arith)
+
+pub empty-not : (s : Bytes) → (length s ≡ 0 → ⊥) → isEmpty s ≡ false
+empty-not [] n = absurd (n refl)
+empty-not (b ∷ s) n = refl
+
+pub filled : (s : Bytes) → 1 ≤ length s → isEmpty s ≡ false
+filled s h = empty-not s (λ e. omega arith)
 
 -- ---- the first bytes of a slice
 

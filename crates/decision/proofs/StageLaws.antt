@@ -6,6 +6,7 @@ use Prim.Native.Nat.{ℕ}
 use native.Mathlib.Omega.{arith}
 use lib.ListN.{length}
 use Rattle.ascii.specs.Ascii.{Bytes, isEmpty, same, lower, beginsWith, beginsWithNoCase}
+use Rattle.ascii.proofs.ListLaws.{empty-is, empty-not}
 use Rattle.origin.specs.Origin.{beginsHttps, httpsUrl, webOrigin, isFacet}
 use Rattle.origin.specs.Matching.{sameHost}
 use Rattle.refusals.specs.declared.Refusal.{Refusal}
@@ -24,14 +25,6 @@ use Rattle.decision.specs.Decide.{byFetch, beforeList}
 use Rattle.decision.specs.code.Meaning.{answerOf, stageOf, settled-so, due-there, Before}
 use Rattle.decision.specs.declared.Answer.the-variants.{Rule1, Rule2, Rule3, Fetch, Refused}
 use Rattle.decision.specs.declared.Stage.the-variants.{Settled, ListDue}
-
-empty-is : (s : Bytes) → length s ≡ 0 → isEmpty s ≡ true
-empty-is [] e = refl
-empty-is (b ∷ s) e = absurd (omega arith)
-
-empty-not : (s : Bytes) → (length s ≡ 0 → ⊥) → isEmpty s ≡ false
-empty-not [] n = absurd (n refl)
-empty-not (b ∷ s) n = refl
 
 https-some : (s : Bytes) → beginsHttps s ≡ true → isEmpty s ≡ false
 unfolding beginsHttps beginsWithNoCase beginsWith lower

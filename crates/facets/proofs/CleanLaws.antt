@@ -6,7 +6,7 @@ use native.Mathlib.Omega.{arith}
 use mir.Syntax.{w32}
 use mir.Val.{Fits}
 use lib.ListN.{length, drop}
-use Rattle.ascii.specs.Ascii.{Bytes}
+use Rattle.ascii.specs.Ascii.{Bytes, writtenOver}
 use Rattle.refusals.specs.declared.Refusal.{Refusal}
 use Rattle.refusals.specs.Number.{refusalNumber}
 use Rattle.cleaning.specs.Clean.{Cleaned, notCleaned, cleaned, clean, cleanedLength, outputAfter}
@@ -25,7 +25,7 @@ record Writes (before after : Bytes) (c : Cleaned) (n : ℕ) : Type 0 where
   list : Bytes
   is : c ≡ cleaned list
   long : n ≡ length list
-  out : after ≡ list ++ drop (length list) before
+  out : after ≡ writtenOver list before
 
 cleans-refused : {before after : Bytes} {c : Cleaned} {r : Output} {x : Refusal} → Cleans before after c r → r ≡ Refused x → Refuses before after c x
 cleans-refused (refuses {x = y} e) h = record { is = ap notCleaned cc; stays = e }

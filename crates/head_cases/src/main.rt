@@ -110,7 +110,7 @@ fn authorized() {
         b"HTTP/1.1 302 Found\r\nFIDO-AppID-Redirect-Authorized:\r\nFIDO-AppID-Redirect-Authorized: true\r\nLocation: l\r\n\r\n",
     );
     show(
-        b"a letter more",
+        b"a letter more in the value",
         b"HTTP/1.1 302 Found\r\nLocation: l\r\nFIDO-AppID-Redirect-Authorized: truex\r\n\r\n",
     );
 }
@@ -133,7 +133,7 @@ fn types() {
         b"HTTP/1.1 200 OK\r\nContent-Type: application/fido.trusted-apps+json \t;x\r\n\r\n",
     );
     show(
-        b"a letter more",
+        b"a letter more in the type",
         b"HTTP/1.1 200 OK\r\nContent-Type: application/fido.trusted-apps+jsons\r\n\r\n",
     );
     show(
@@ -292,7 +292,7 @@ fn outputs() {
 
 // A head of n bytes, most of them the value of one field.
 fn show_long(label: &[u8], n: usize)
-    requires { ⌜ (4 ≤ n) × (n ≤ 8193) ⌝ }
+    requires { ⌜ (23 ≤ n) × (n ≤ 8193) ⌝ }
 {
     let mut head = [b'v'; 8193];
     origin::normal::write_bytes(b"HTTP/1.1 200 OK\r\nX:", &mut head, 0);

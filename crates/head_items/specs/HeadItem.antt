@@ -43,21 +43,22 @@ unfoldable pub startFits : ℕ → Head → Bool
 startFits start (redirect status authorized location) = leb start 65535
 startFits start (answer status typeSeen) = true
 
+-- itemBefore, textBefore: the two outputs' bytes before the call
+
 -- 15, where either output is short or a redirect's start doesn't fit 2 bytes
 unfoldable pub fitting : ℕ → Bytes → Bytes → Head → HeadItem
-fitting start item lent h =
-    if leb (length (itemOf start h)) (length item) && leb (length (locationText h)) (length lent) && startFits start h
+fitting start itemBefore textBefore h =
+    if leb (length (itemOf start h)) (length itemBefore) && leb (length (locationText h)) (length textBefore) && startFits start h
     then written (itemOf start h) (locationText h)
     else refused Full
 
 -- before it 16, head not in this form or a redirect without its one Location
 unfoldable pub itemFor : ℕ → Bytes → Bytes → Option Head → HeadItem
-itemFor start item lent none = refused BadHead
-itemFor start item lent (some h) = fitting start item lent h
+itemFor start itemBefore textBefore none = refused BadHead
+itemFor start itemBefore textBefore (some h) = fitting start itemBefore textBefore h
 
--- item, lent: the two outputs' bytes before the call
 unfoldable pub headItem : Bytes → ℕ → Bytes → Bytes → HeadItem
-headItem head start item lent = itemFor start item lent (readHead head)
+headItem head start itemBefore textBefore = itemFor start itemBefore textBefore (readHead head)
 
 -- ---- the two outputs after the call: a refusal changes none, and what is not written remains
 

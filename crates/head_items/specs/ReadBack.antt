@@ -25,7 +25,8 @@ abbrev pub startsOf : ℕ → Head → List ℕ
 startsOf start (redirect status authorized x) = start ∷ []
 startsOf start (answer status typeSeen) = []
 
--- a call that is not refused, with this start and whatever outputs: its head says h, and this item is written
+-- a head that says h, with this start and whatever outputs, is not refused, and this is the item that is written; the export's equations say that it stands at
+-- the front of the first output
 pub record Item (start : ℕ) (h : Head) (item : Bytes) : Type 0 where
   pub head : Bytes
   pub itemBefore : Bytes

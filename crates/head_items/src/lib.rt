@@ -35,7 +35,7 @@ fn seen(b: bool) -> u8
     if b { 1 } else { 0 }
 }
 
-// Kind 2, and no Location text.
+// Kind 2 and no Location text, or nothing where the item does not fit.
 fn write_answer(status: u16, typed: bool, item: &mut [u8]) -> Lengths
     ensures { λ r. ⌜ WritesAnswer status typed (now (item .entry)) (now (item .exit)) r ⌝ }
 {
@@ -79,7 +79,7 @@ fn redirect_item(status: u16, authorized: bool, start: u32, size: usize) -> [u8;
     ]
 }
 
-// The item and its Location text, where there is room for both.
+// Both written, where there is room.
 fn put_redirect(
     status: u16,
     authorized: bool,
@@ -98,7 +98,7 @@ fn put_redirect(
     Lengths::Written(8, size)
 }
 
-// The same, or nothing.
+// The item and its Location text, or nothing where one of them or the start does not fit.
 fn write_redirect(
     status: u16,
     authorized: bool,

@@ -12,6 +12,7 @@ use lib.Dec.{leb}
 use borrow.Author.Needs.{needs}
 use borrow.Author.Tests.{le-leb, lt-leb, leb-true, leb-false}
 use Rattle.ascii.specs.Ascii.{Bytes, isEmpty, lowerByte, lower, same, text}
+use Rattle.ascii.proofs.ListLaws.{filled}
 use Rattle.ascii.proofs.Compare.{length-lower}
 use Rattle.suffix.proofs.Places.{getD-lower}
 use Rattle.origin.specs.Origin.{Authority, webOrigin, shownPort, normalWeb, normalOf, normalForm}
@@ -140,10 +141,6 @@ nothing-wrote at o = go (leb (at + 0) (length o)) refl
     go : (u : Bool) → leb (at + 0) (length o) ≡ u → Wrote [] at o o at
     go true e = record { is = rw e (paste-zero o at []); place = rw e (omega arith) }
     go false e = record { is = rw e; place = rw e }
-
-filled : (l : Bytes) → 1 ≤ length l → isEmpty l ≡ false
-filled [] h = absurd (omega arith)
-filled (b ∷ l) h = refl
 
 module _ (s : Bytes) (end tail : ℕ) (P : Placed s end tail) where
   pub hidden-none : tail ≤ end + 1 → true ≡ isHidden (part s (end + 1) tail)

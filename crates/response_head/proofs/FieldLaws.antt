@@ -16,7 +16,7 @@ use Rattle.ascii.specs.declared.decimals.Number.{Number}
 use Rattle.ascii.specs.declared.decimals.Number.the-variants.{Malformed}
 use Rattle.ascii.proofs.Bytes.{implies, each, passes, digit-small, letter-small}
 use Rattle.ascii.proofs.Compare.{by-short}
-use Rattle.ascii.proofs.ListLaws.{all-append, all-weaker, all-drop}
+use Rattle.ascii.proofs.ListLaws.{all-append, all-weaker, all-drop, empty-is, empty-not}
 use Rattle.ascii.proofs.Scan.{while-all, while-rest, while-part, while-length, scan-to, scan-rest}
 use Rattle.response_head.specs.ResponseHead.{isBlank, isTextByte, isTchar, isOther, fitsByte, fitsForm, statusForm, readStatus, trimEnd, trim, Field, fieldOf, readField, isListType, isTrue, authorizedName, typeName, locationName}
 use Rattle.response_head.specs.code.Meaning.{Trims, fieldIn, no-field, field, ReadsField, firstBy, isRight, placeBy, seenWith}
@@ -119,14 +119,6 @@ module _ (l : Bytes) where
 
 -- ---- one field line
 
-empty-is : (x : Bytes) → length x ≡ 0 → isEmpty x ≡ true
-empty-is [] h = refl
-empty-is (b ∷ x) h = absurd (omega arith)
-
-filled-is : (x : Bytes) → (length x ≡ 0 → ⊥) → isEmpty x ≡ false
-filled-is [] n = absurd (n refl)
-filled-is (b ∷ x) n = refl
-
 module _ (l : Bytes) (t : all isTextByte l ≡ true) {c : ℕ} (e : c ≡ 0 + length (takeWhile isTchar l)) where
   name-length : c ≡ length (takeWhile isTchar l)
   name-length = omega (arith, e)
@@ -166,7 +158,7 @@ module _ (l : Bytes) (t : all isTextByte l ≡ true) {c : ℕ} (e : c ≡ 0 + le
         is =
             let a : take c l ≡ takeWhile isTchar l = rw name-length (while-part isTchar l) in
             let b : dropWhile isBlank (drop (c + 1) l) ≡ drop from l = sym (scan-rest isBlank l (c + 1) from g) in
-            let f : isEmpty (takeWhile isTchar l) ≡ false = filled-is (takeWhile isTchar l) (λ z. n (name-length ∙ z)) in
+            let f : isEmpty (takeWhile isTchar l) ≡ false = empty-not (takeWhile isTchar l) (λ z. n (name-length ∙ z)) in
             let d : beginsWith (58 ∷ []) (drop c l) ≡ true = rw (drop-cons l c 0 h, k) in
             sym (rw (f, rest-is, d, drop-drop 1 c l, all-drop isTextByte (c + 1) l t, b, ← R .is, ← a));
         places = field {colon = c} (omega arith) (R .low) (R .high);

@@ -13,6 +13,7 @@ use mir.Val.{Fits}
 use borrow.Author.Needs.{needs}
 use borrow.Author.Tests.{le-leb, lt-leb}
 use Rattle.ascii.specs.Ascii.{Bytes, if_then_else_, _>>=_, _when_, all, isEmpty, takeWhile, joinHead, between, beginsWith}
+use Rattle.ascii.proofs.ListLaws.{filled}
 use Rattle.ascii.proofs.Split.{Parts}
 use Rattle.response_head.specs.ResponseHead.{isTextByte, linesOf, readStatus, Field, readField, isEnd, readFields, valuesOf, firstPasses, isTrue, isListType, only, authorizedName, typeName, locationName, headOf, readLines, readHead}
 use Rattle.response_head.specs.code.Meaning.{firstOf, isRight, PlaceIs, nowhere, one, several, Sees, FieldsRead, no-fields, fields, Adds, headIn, no-head, an-answer, a-redirect, ReadsHead, Makes}
@@ -125,10 +126,6 @@ module _ {s : Bytes} {goal : Option (List Field)} {x : Seen} {at : ℕ} (G : Gat
       gather-behind h k = stops (empty-line h ∙ rw (not-end (drop (end + 2) s) (λ z. k (omega (arith, length-drop (end + 2) s, line-room s at e g f)))))
 
       module _ (h : at < length s) (n : end ≡ at → ⊥) where
-        filled : (l : Bytes) → 1 ≤ length l → isEmpty l ≡ false
-        filled [] k = absurd (omega arith)
-        filled (b ∷ l) k = refl
-
         field-line : readFields (linesOf (drop at s)) ≡ (readField (take (end - at) (drop at s)) >>= λ f. readFields (linesOf (drop (end + 2) s)) >>= λ fs. some (f ∷ fs))
         unfolding readFields
         field-line =

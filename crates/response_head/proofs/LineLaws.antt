@@ -14,7 +14,8 @@ use borrow.Author.Needs.{needs}
 use borrow.Author.Tests.{ne-eqb, eqb-true}
 use Rattle.ascii.specs.Ascii.{Bytes, if_then_else_, all, takeWhile, dropWhile, joinHead, same, sameNoCase, lower, lowerByte, isUpper, beginsWith}
 use Rattle.ascii.proofs.Scan.{while-all, while-stops, scan-to, scan-from, scan-rest, scan-part}
-use Rattle.ascii.proofs.Split.{Parts, onFirst}
+use Rattle.ascii.proofs.ListLaws.{all-both}
+use Rattle.ascii.proofs.Split.{Parts, onFirst, on-first-nil, on-first-cons}
 use Rattle.ascii.proofs.Compare.{same-eq}
 use Rattle.response_head.specs.ResponseHead.{isTextByte, isBlank, linesOf, Field, readField, valuesOf, authorizedName, typeName, locationName}
 use Rattle.response_head.specs.code.Meaning.{fieldIn, FieldPlaced, field, ReadsField, firstOf, firstBy, PlaceIs, nowhere, one, several, placeBy, seenWith, Sees, no-fields, fields, TextLine, Adds}
@@ -63,15 +64,6 @@ no-crlf : (f : ℕ → Bool) → f 13 ≡ false → (b : ℕ) (s : Bytes) → f 
 unfolding beginsWith
 no-crlf f h b s e = rw (ne-eqb 13 b (λ k. let z : _≡_ {A = ℕ} 0 1 = cc (sym h ∙ ap f k ∙ e) in omega arith))
 
-on-first-nil : (ls : List Bytes) → Parts ls → onFirst [] ls ≡ ls
-unfolding onFirst
-on-first-nil ls P = rw (P .is)
-
-on-first-cons : (b : ℕ) (p : Bytes) (ls : List Bytes) → joinHead b (onFirst p ls) ≡ onFirst (b ∷ p) ls
-unfolding onFirst joinHead
-on-first-cons b p [] = refl
-on-first-cons b p (q ∷ qs) = refl
-
 lines-while : (f : ℕ → Bool) → f 13 ≡ false → (l : Bytes) → linesOf l ≡ onFirst (takeWhile f l) (linesOf (dropWhile f l))
 unfolding takeWhile dropWhile
 lines-while f h [] = sym (on-first-nil (linesOf []) (lines-parts []))
@@ -89,8 +81,7 @@ pub data Cut : List Bytes → Type 0 where
 
 all-other : (f : ℕ → Bool) (p : Bytes) (b : ℕ) (q : Bytes) → f b ≡ false → all f (p ++ (b ∷ q)) ≡ false
 unfolding all
-all-other f [] b q e = rw e
-all-other f (c ∷ p) b q e = rw (all-other f p b q e, and-false (f c))
+all-other f p b q e = rw (all-both f p (b ∷ q), e, and-false (all f p))
 
 cut-lines : (p t : Bytes) → ((b : ℕ) (m : Bytes) → t ≡ b ∷ m → isTextByte b ≡ false) → beginsWith crlf t ≡ false → Cut (onFirst p (linesOf t))
 unfolding onFirst joinHead

@@ -1,7 +1,7 @@
 -- One response head and what it says (document 02, S-2). Its grammar is RFC 9112's, sections 2.1 to 5, with tokens and field values as in RFC 9110,
--- section 5; the rules stand in comments as the RFCs write them.
+-- section 5; each rule stands in a comment as its RFC writes it.
 use mathlib.Core.List.{List, [], _∷_}
-use mathlib.Core.Bool.{Bool, true, false, _&&_, _||_, not}
+use mathlib.Core.Bool.{Bool, false, _&&_, _||_, not}
 use mathlib.Core.Option.{Option, none, some}
 use Prim.Native.Nat.{ℕ}
 use Prim.Native.Char.{code}
@@ -11,13 +11,13 @@ use Rattle.ascii.specs.Ascii.{Bytes, if_then_else_, _>>=_, _when_, all, isEmpty
 
 -- ---- bytes
 
--- SP / HTAB
+-- SP / HTAB, of which OWS = *( SP / HTAB )
 unfoldable pub isBlank : ℕ → Bool
-isBlank b = eqb b 32 || eqb b 9
+isBlank b = eqb b 0x20 || eqb b 0x09
 
--- HTAB / SP / VCHAR / obs-text: the bytes of a reason-phrase, and of a field-value with the OWS around it
+-- HTAB / SP / VCHAR / obs-text, where VCHAR = %x21-7E and obs-text = %x80-FF
 unfoldable pub isTextByte : ℕ → Bool
-isTextByte b = isBlank b || between 33 126 b || between 128 255 b
+isTextByte b = isBlank b || between 0x21 0x7E b || between 0x80 0xFF b
 
 -- tchar = "!" / "#" / "$" / "%" / "&" / "'" / "*" / "+" / "-" / "." / "^" / "_" / "`" / "|" / "~" / DIGIT / ALPHA
 unfoldable pub isTchar : ℕ → Bool
@@ -25,11 +25,11 @@ isTchar b = among (text "!#$%&'*+-.^_`|~") b || isDigit b || isLetter b
 
 -- ---- lines
 
--- CRLF ends: the parts between CRLFs, one more than there are CRLFs
+-- CRLF ends, CR = %x0D and LF = %x0A: the parts between CRLFs, one more than there are CRLFs
 unfoldable pub linesOf : Bytes → List Bytes
 linesOf [] = [] ∷ []
 linesOf (b ∷ []) = (b ∷ []) ∷ []
-linesOf (b ∷ c ∷ s) = if eqb 13 b && eqb 10 c then [] ∷ linesOf s else joinHead b (linesOf (c ∷ s))
+linesOf (b ∷ c ∷ s) = if eqb 0x0D b && eqb 0x0A c then [] ∷ linesOf s else joinHead b (linesOf (c ∷ s))
 
 -- a byte of a form: `0` stands for DIGIT, another byte for itself
 unfoldable pub fitsByte : ℕ → ℕ → Bool
@@ -39,16 +39,16 @@ fitsByte p b = if eqb p (code "0") then isDigit b else eqb b p
 abbrev pub fitsForm : Bytes → Bytes → Bool
 fitsForm form s = beginsBy fitsByte form s
 
--- HTTP-version SP status-code SP, where HTTP-version = "HTTP" "/" DIGIT "." DIGIT and status-code = 3DIGIT
+-- HTTP-version SP status-code SP, where HTTP-version = HTTP-name "/" DIGIT "." DIGIT, HTTP-name = %s"HTTP" (by case) and status-code = 3DIGIT
 abbrev pub statusForm : Bytes
 statusForm = text "HTTP/0.0 000 "
 
 -- status-line = HTTP-version SP status-code SP [ reason-phrase ], where reason-phrase = 1*( HTAB / SP / VCHAR / obs-text ); its status is the number of the
--- three digits
+-- three digits behind `HTTP/0.0 `
 unfoldable pub readStatus : Bytes → Option ℕ
-readStatus l = if fitsForm statusForm l && all isTextByte (drop 13 l) then number16 (take 3 (drop 9 l)) else none
+readStatus l = if fitsForm statusForm l && all isTextByte (drop (length statusForm) l) then number16 (take 3 (drop 9 l)) else none
 
--- optional spaces and tabs around a value are dropped: OWS = *( SP / HTAB )
+-- optional spaces and tabs around a value are dropped
 unfoldable pub trimEnd : Bytes → Bytes
 trimEnd [] = []
 trimEnd (b ∷ s) = if all isBlank (b ∷ s) then [] else b ∷ trimEnd s
@@ -60,7 +60,9 @@ pub record Field : Type 0 where
   pub name : Bytes
   pub value : Bytes
 
--- field-line = field-name ":" OWS field-value OWS, where field-name = token and token = 1*tchar
+-- field-line = field-name ":" OWS field-value OWS, where field-name = token, token = 1*tchar, field-value = *field-content,
+-- field-content = field-vchar [ 1*( SP / HTAB / field-vchar ) field-vchar ] and field-vchar = VCHAR / obs-text.
+-- So a field-value is text bytes with no blank first or last, and what stands behind the colon any text bytes.
 unfoldable pub fieldOf : Bytes → Bytes → Option Field
 fieldOf name rest =
     record { name = name; value = trim (drop 1 rest) }
@@ -69,7 +71,7 @@ fieldOf name rest =
 unfoldable pub readField : Bytes → Option Field
 readField l = fieldOf (takeWhile isTchar l) (dropWhile isTchar l)
 
--- nothing stands behind the last CRLF
+-- behind the empty line: its CRLF stands, and then nothing
 unfoldable pub isEnd : List Bytes → Bool
 isEnd [] = false
 isEnd (l ∷ ls) = isEmpty l && isEmpty ls

@@ -22,7 +22,7 @@ enum FieldLine {
     Malformed,
 }
 
-// The first line of a name: it has the value that is asked for, or another one.
+// The first line of a name: none yet, or one with the value that is asked for, or with another one.
 enum First {
     Unseen,
     Right,
@@ -309,13 +309,14 @@ fn field_seen(s: &[u8], at: usize, end: usize, x: Seen) -> Fields
     let FieldLine::Parts(colon, from, to) = read_field(&s[at..end]) else {
         return Fields::Malformed;
     };
-    let behind = at + colon;
+    let name_end = at + colon;
     let first = at + from;
     let last = at + to;
-    Fields::Read(seen_with(&s[at..behind], &s[first..last], first, last, x))
+    Fields::Read(seen_with(&s[at..name_end], &s[first..last], first, last, x))
 }
 
-// The field lines from a place on, the empty line last and nothing behind it.
+// The field lines from a place on, the empty line last and nothing behind it: line after line, each looked at for its end, then for
+// its parts, and not again.
 fn read_fields(s: &[u8], from: usize) -> Fields
     ensures { λ r. ⌜ FieldsRead (now (s .entry)) (readFields (linesOf (drop from (now (s .entry))))) r ⌝ }
 {

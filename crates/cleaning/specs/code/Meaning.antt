@@ -6,7 +6,7 @@ use mathlib.Core.Option.{none, some}
 use Prim.Native.Nat.{ℕ, _+_, _≤_}
 use Prim.Native.Char.{code}
 use lib.ListN.{length, drop}
-use Rattle.ascii.specs.Ascii.{Bytes, text, prefixed, joinWith, decimal}
+use Rattle.ascii.specs.Ascii.{Bytes, text, prefixed, joinWith, decimal, writtenOver}
 use Rattle.origin.specs.Origin.{normalForm}
 use Rattle.origin.specs.code.Parts.{Wrote}
 use Rattle.entries.specs.Causes.{kept}
@@ -71,4 +71,4 @@ listHead major minor =
 -- what the code answers, and the output's bytes before and after
 pub data Cleans (before after : Bytes) : Cleaned → Output → Type 0 where
   refuses : {x : Refusal} → after ≡ before → Cleans before after (notCleaned x) (NotWritten x)
-  writes : {list : Bytes} {n : ℕ} → n ≡ length list → after ≡ list ++ drop (length list) before → Cleans before after (cleaned list) (Length n)
+  writes : {list : Bytes} {n : ℕ} → n ≡ length list → after ≡ writtenOver list before → Cleans before after (cleaned list) (Length n)

@@ -25,11 +25,11 @@ lengthsOf (refused r) = Refused r
 lengthsOf (written item location) = Written (length item) (length location)
 
 -- both outputs before and after the call, and the answer
-pub record Answers (start : ℕ) (o : Option Head) (item item₁ lent lent₁ : Bytes) (r : Lengths) : Type 0 where
-  pub is : r ≡ lengthsOf (itemFor start item lent o)
-  pub item-is : item₁ ≡ itemAfter item (itemFor start item lent o)
-  pub text-is : lent₁ ≡ textAfter lent (itemFor start item lent o)
+pub record Answers (start : ℕ) (o : Option Head) (itemBefore itemThen textBefore textThen : Bytes) (r : Lengths) : Type 0 where
+  pub is : r ≡ lengthsOf (itemFor start itemBefore textBefore o)
+  pub item-is : itemThen ≡ itemAfter itemBefore (itemFor start itemBefore textBefore o)
+  pub text-is : textThen ≡ textAfter textBefore (itemFor start itemBefore textBefore o)
 
 -- an answer leaves the second output as it is
-pub record WritesAnswer (status : ℕ) (typed : Bool) (item item₁ : Bytes) (r : Lengths) : Type 0 where
-  pub is : (start : ℕ) (lent : Bytes) → Answers start (some (answer status typed)) item item₁ lent lent r
+pub record WritesAnswer (status : ℕ) (typed : Bool) (itemBefore itemThen : Bytes) (r : Lengths) : Type 0 where
+  pub is : (start : ℕ) (textBefore : Bytes) → Answers start (some (answer status typed)) itemBefore itemThen textBefore textBefore r
