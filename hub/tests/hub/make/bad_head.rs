@@ -10,7 +10,7 @@ use crate::random::Random;
 type Spoil = fn(&mut Random) -> Vec<u8>;
 
 /// The faults, each of which makes a head bad.
-pub const FAULTS: [(&str, Spoil); 24] = [
+pub const FAULTS: [(&str, Spoil); 26] = [
     ("version", |random| {
         let version = random.pick(&[
             "http/1.1", "Http/1.1", "HTTp/1.1", "HTTP/11", "HTTP/1.", "HTTP/.1", "HTTP/1.10", "HTTP/10.1",
@@ -82,6 +82,10 @@ pub const FAULTS: [(&str, Spoil); 24] = [
         let cut = if random.chance(50) { 1 + random.below(4) } else { 1 + random.below(head.len()) };
         head[..head.len() - cut].to_vec()
     }),
+    ("no empty line", |random| {
+        let head = good(random);
+        head[..head.len() - 2].to_vec()
+    }),
     ("bytes behind", |random| {
         let behind =
             random.pick(&["\r\n", "\n", "\r", " ", "x", "\0", "{\"trustedFacets\":[]}", "a: b\r\n\r\n"]);
@@ -100,7 +104,7 @@ pub const FAULTS: [(&str, Spoil); 24] = [
     }),
     ("more Locations", |random| {
         let mut lines = redirect(random);
-        let one = lines.iter().find(|line| is_location(line)).expect("a Location").clone();
+        let one = the_location(&lines);
         for _ in 0..1 + random.below(2) {
             let location = location(random);
             let more = if random.chance(40) { one.clone() } else { field(random, "Location", &location) };
@@ -108,10 +112,23 @@ pub const FAULTS: [(&str, Spoil); 24] = [
         }
         finished(random, lines)
     }),
+    ("Location in another case too", |random| {
+        let mut lines = redirect(random);
+        let mut more = the_location(&lines);
+        let letter = random.below("Location".len());
+        more[letter] ^= 0x20;
+        lines.insert(1 + random.below(lines.len()), more);
+        finished(random, lines)
+    }),
 ];
 
 fn is_location(line: &[u8]) -> bool {
     line.len() > 8 && line[..9].eq_ignore_ascii_case(b"Location:")
+}
+
+/// The Location line of a redirect.
+fn the_location(lines: &[Vec<u8>]) -> Vec<u8> {
+    lines.iter().find(|line| is_location(line)).expect("a Location").clone()
 }
 
 /// A redirect's lines.
