@@ -30,7 +30,7 @@ fn pattern(length: usize) -> Vec<u8> {
 const STARTS: [u32; 5] = [0, 258, 65_535, 65_536, u32::MAX];
 
 /// Asserts that library and model both say this of the head, into outputs on both sides of the lengths it needs, and
-/// that the crate `httparse` agrees.
+/// that the crate `httparse` agrees, or differs in a known way.
 #[track_caller]
 fn says(head: &[u8], expected: &Head) {
     second_opinion::beside(head);
@@ -62,7 +62,8 @@ fn answer(head: impl AsRef<[u8]>, status: u16, type_seen: bool) {
     says(head.as_ref(), &Head::Answer(Answer { status, type_seen }));
 }
 
-/// Asserts refusal 16, also where refusal 15 would fit, and that the crate `httparse` agrees.
+/// Asserts refusal 16, also where refusal 15 would fit, and that the crate `httparse` agrees, or differs in a known
+/// way.
 #[track_caller]
 fn refused(head: impl AsRef<[u8]>) {
     second_opinion::beside(head.as_ref());

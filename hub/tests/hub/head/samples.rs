@@ -1,4 +1,4 @@
-//! Heads as servers in use send them.
+//! Heads as servers in use send them: written after the manner of these servers, not captured.
 
 use super::{answer, redirect, refused};
 
