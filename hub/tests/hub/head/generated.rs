@@ -4,30 +4,42 @@ use crate::{
     check,
     make::{
         bad_head::FAULTS,
-        head::{any, Made, Outcome, OUTCOMES},
+        head::{any, Known, Made, Outcome, OUTCOMES},
     },
-    model::head::{parse, read, Field, Head, Short},
+    model::head::{parse, read, write, Field, Head, Short},
     random::Random,
 };
 use std::collections::BTreeMap;
 
 const ROUNDS: usize = 200_000;
 
-/// What the call came to; nothing where refusal 15 has more causes than one.
-fn outcome(made: &Made) -> Option<Outcome> {
+/// What the model says the call comes to; of refusal 15 every cause.
+fn outcomes(made: &Made) -> Vec<Outcome> {
     let Made { head, start, item, text, .. } = made;
-    match check::head(head, *start, item, text) {
-        Ok(Head::Redirect(redirect)) if redirect.header_seen => Some(Outcome::Authorized),
-        Ok(Head::Redirect(_)) => Some(Outcome::NotAuthorized),
-        Ok(Head::Answer(answer)) if answer.type_seen => Some(Outcome::RightType),
-        Ok(Head::Answer(_)) => Some(Outcome::OtherType),
-        Err(16) => Some(Outcome::BadHead),
-        Err(_) => match read(head).expect("a head").short(*start, item, text) {
-            Short { item: true, text: false, start: false } => Some(Outcome::ShortItem),
-            Short { item: false, text: true, start: false } => Some(Outcome::ShortText),
-            Short { item: false, text: false, start: true } => Some(Outcome::FarStart),
-            _ => None,
-        },
+    match write(head, *start, &mut item.clone(), &mut text.clone()) {
+        Ok(Head::Redirect(redirect)) if redirect.header_seen => vec![Outcome::Authorized],
+        Ok(Head::Redirect(_)) => vec![Outcome::NotAuthorized],
+        Ok(Head::Answer(answer)) if answer.type_seen => vec![Outcome::RightType],
+        Ok(Head::Answer(_)) => vec![Outcome::OtherType],
+        Err(16) => vec![Outcome::BadHead],
+        Err(_) => {
+            let Short { item, text, start } = read(head).expect("a head").short(*start, item, text);
+            let causes = [(item, Outcome::ShortItem), (text, Outcome::ShortText), (start, Outcome::FarStart)];
+            causes.into_iter().filter(|cause| cause.0).map(|cause| cause.1).collect()
+        }
+    }
+}
+
+/// Asserts that the model says of a head what its maker knows of it.
+fn as_made(made: &Made, outcomes: &[Outcome]) {
+    let shown = || made.head.escape_ascii();
+    match &made.known {
+        Known::Says(says, outcome) => {
+            assert_eq!(read(&made.head).as_ref(), Some(says), "{}", shown());
+            assert!(outcomes.contains(outcome), "{outcomes:?} for {outcome:?}: {}", shown());
+        }
+        Known::Bad(fault) => assert_eq!(outcomes, [Outcome::BadHead], "{fault}: {}", shown()),
+        Known::Damaged => {}
     }
 }
 
@@ -122,28 +134,32 @@ fn marks(head: &[u8]) -> impl Iterator<Item = &'static str> + '_ {
 #[test]
 fn generated_heads_beside_the_model() {
     let mut random = Random::new(9);
-    let mut outcomes: BTreeMap<Option<Outcome>, usize> = BTreeMap::new();
+    let mut counts: BTreeMap<Vec<Outcome>, usize> = BTreeMap::new();
     let mut faults: BTreeMap<&str, usize> = FAULTS.map(|fault| (fault.0, 0)).into();
     let mut seen: BTreeMap<&str, usize> = MARKS.map(|mark| (mark.0, 0)).into();
     for _ in 0..ROUNDS {
         let made = any(&mut random);
-        let outcome = outcome(&made);
-        *outcomes.entry(outcome).or_default() += 1;
-        if let Some(fault) = made.fault {
-            assert_eq!(outcome, Some(Outcome::BadHead), "{fault}: {}", made.head.escape_ascii());
+        let outcomes = outcomes(&made);
+        as_made(&made, &outcomes);
+        let _ = check::head(&made.head, made.start, &made.item, &made.text);
+        if let Known::Bad(fault) = made.known {
             *faults.get_mut(fault).expect("a fault") += 1;
         }
-        if outcome != Some(Outcome::BadHead) {
+        if outcomes != [Outcome::BadHead] {
             for mark in marks(&made.head) {
                 *seen.get_mut(mark).expect("a mark") += 1;
             }
         }
+        *counts.entry(outcomes).or_default() += 1;
     }
-    println!("{ROUNDS} generated heads: {outcomes:?}");
+    println!("{ROUNDS} generated heads: {counts:?}");
     println!("bad heads by their fault: {faults:#?}");
     println!("heads that are read, by what is in them: {seen:#?}");
-    assert_eq!(outcomes.len(), OUTCOMES.len() + 1);
-    assert!(outcomes.values().min() >= Some(&1_000), "{outcomes:?}");
+    for outcome in OUTCOMES {
+        assert!(counts.get(&vec![outcome]) >= Some(&1_000), "{outcome:?}");
+    }
+    let many_causes = counts.iter().filter(|(outcomes, _)| outcomes.len() > 1);
+    assert!(many_causes.map(|(_, count)| count).sum::<usize>() >= 1_000, "refusal 15 by more causes");
     let rare: Vec<_> = faults.iter().chain(&seen).filter(|(_, &count)| count < 1_000).collect();
     assert!(rare.is_empty(), "fewer than 1,000 of {rare:?}");
 }

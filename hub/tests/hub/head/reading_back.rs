@@ -5,7 +5,7 @@ use crate::{
     case::Case,
     check, hand,
     make::{
-        head::{answer, location, redirect_to},
+        head::{answer, head, location, redirect_to},
         identifier::{host, url},
     },
     model::{
@@ -29,11 +29,13 @@ struct Fetched {
 }
 
 impl Fetched {
-    /// Reads a head and appends its item and its Location; false where the Location's start is too far.
-    fn append(&mut self, head: &[u8]) -> bool {
+    /// Reads a head made to say this and appends its item and its Location; false where the Location's start is too
+    /// far.
+    fn append(&mut self, random: &mut Random, says: Head) -> bool {
+        let head = head(random, &says);
+        assert_eq!(read(&head).as_ref(), Some(&says), "{}", head.escape_ascii());
         let (mut item, mut location) = ([0xEE; 8], vec![0xEE; head.len()]);
-        let says = read(head).expect("a head");
-        let read = match read_head(head, self.text.len() as u32, &mut item, &mut location) {
+        let read = match read_head(&head, self.text.len() as u32, &mut item, &mut location) {
             Ok(read) => read,
             Err(refusal) => {
                 let far = matches!(says, Head::Redirect(_)) && self.text.len() > 65_535;
@@ -73,14 +75,14 @@ fn fetched(random: &mut Random, far: &mut usize) -> Fetched {
         let odd = !careful && random.chance(30);
         let location = if odd { location(random) } else { url(random, &host).into_bytes() };
         let authorized = careful || random.chance(85);
-        let head = redirect_to(random, authorized, &location);
-        *far += usize::from(!fetched.append(&head));
+        let says = redirect_to(random, authorized, location);
+        *far += usize::from(!fetched.append(random, says));
     }
     between(random, &mut fetched.text);
     if random.chance(70) {
         let right = random.chance(80);
-        let head = answer(random, right);
-        assert!(fetched.append(&head), "an answer has no start");
+        let says = answer(random, right);
+        assert!(fetched.append(random, says), "an answer has no start");
     }
     fetched
 }

@@ -1,7 +1,7 @@
 //! Response heads that are bad, each by one fault.
 
 use super::{
-    head::{answer_lines, ended, field, finished, lengthen, location, other, redirect_lines, Lines},
+    head::{self, answer, ended, field, finished, lengthen, location, other, Lines},
     table::damage,
 };
 use crate::random::Random;
@@ -133,8 +133,9 @@ fn the_location(lines: &[Vec<u8>]) -> Vec<u8> {
 
 /// A redirect's lines.
 fn redirect(random: &mut Random) -> Lines {
-    let (authorized, location) = (random.chance(50), location(random));
-    redirect_lines(random, authorized, &location)
+    let authorized = random.chance(50);
+    let says = head::redirect(random, authorized);
+    head::lines(random, &says)
 }
 
 /// The lines of a good head.
@@ -143,7 +144,8 @@ fn good_lines(random: &mut Random) -> Lines {
         return redirect(random);
     }
     let right = random.chance(50);
-    answer_lines(random, right)
+    let says = answer(random, right);
+    head::lines(random, &says)
 }
 
 fn good(random: &mut Random) -> Vec<u8> {

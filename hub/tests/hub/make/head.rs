@@ -5,7 +5,10 @@ use super::{
     identifier::{bad_url, foreign, host, url},
 };
 use crate::{
-    model::head::{self as model, Head},
+    model::{
+        head::{self as model, Head},
+        record::{Answer, Redirect},
+    },
     random::Random,
 };
 
@@ -34,8 +37,17 @@ pub struct Made {
     pub start: u32,
     pub item: Vec<u8>,
     pub text: Vec<u8>,
-    /// What makes the head a bad one.
-    pub fault: Option<&'static str>,
+    pub known: Known,
+}
+
+/// What is known of a head by how it was made.
+pub enum Known {
+    /// It says this, and this is what reading it comes to; refusal 15 may have other causes too.
+    Says(Head, Outcome),
+    /// It is a bad one by this fault.
+    Bad(&'static str),
+    /// Nothing is known.
+    Damaged,
 }
 
 /// A head and outputs for any outcome, one in three a bad head; one in twenty is damaged.
@@ -45,29 +57,64 @@ pub fn any(random: &mut Random) -> Made {
         return made(random, outcome);
     }
     let head = damaged(random);
-    let (start, item, text) = outputs(random, &head, outcome);
-    Made { head, start, item, text, fault: None }
+    let says = model::read(&head);
+    with_outputs(random, head, says.as_ref(), outcome, Known::Damaged)
 }
 
 /// A head and outputs for this outcome.
 fn made(random: &mut Random, outcome: Outcome) -> Made {
+    if outcome == Outcome::BadHead {
+        let (fault, spoil) = FAULTS[random.below(FAULTS.len())];
+        let head = spoil(random);
+        return with_outputs(random, head, None, outcome, Known::Bad(fault));
+    }
+    let says = to_say(random, outcome);
+    let head = head(random, &says);
+    with_outputs(random, head, Some(&says), outcome, Known::Says(says.clone(), outcome))
+}
+
+/// What a head for this outcome is to say.
+fn to_say(random: &mut Random, outcome: Outcome) -> Head {
     let any = random.chance(50);
-    let mut fault = None;
-    let head = match outcome {
+    match outcome {
         Outcome::Authorized => redirect(random, true),
         Outcome::NotAuthorized => redirect(random, false),
         Outcome::RightType => answer(random, true),
         Outcome::OtherType => answer(random, false),
         Outcome::ShortItem if random.chance(50) => answer(random, any),
-        Outcome::ShortItem | Outcome::ShortText | Outcome::FarStart => redirect(random, any),
-        Outcome::BadHead => {
-            let (name, spoil) = FAULTS[random.below(FAULTS.len())];
-            fault = Some(name);
-            spoil(random)
+        // No output is short of an empty Location.
+        Outcome::ShortText => {
+            let mut location = location(random);
+            if location.is_empty() {
+                location.push(b'u');
+            }
+            redirect_to(random, any, location)
         }
+        Outcome::ShortItem | Outcome::FarStart => redirect(random, any),
+        Outcome::BadHead => unreachable!("a bad head says nothing"),
+    }
+}
+
+/// What a redirect may say.
+pub fn redirect(random: &mut Random, header_seen: bool) -> Head {
+    let location = location(random);
+    redirect_to(random, header_seen, location)
+}
+
+/// What a redirect to this Location may say.
+pub fn redirect_to(random: &mut Random, header_seen: bool, location: Vec<u8>) -> Head {
+    let status = [300, 300, 301, 302, 303, 304, 305, 307, 308, 350, 399, 399][random.below(12)];
+    Head::Redirect(Redirect { status, header_seen, location })
+}
+
+/// What an answer may say.
+pub fn answer(random: &mut Random, type_seen: bool) -> Head {
+    let status = match random.below(3) {
+        0 => 200,
+        1 => [0, 99, 100, 199, 201, 204, 298, 299][random.below(8)],
+        _ => [400, 401, 404, 410, 500, 503, 600, 999][random.below(8)],
     };
-    let (start, item, text) = outputs(random, &head, outcome);
-    Made { head, start, item, text, fault }
+    Head::Answer(Answer { status, type_seen })
 }
 
 // ---- heads
@@ -134,21 +181,9 @@ pub fn ended(lines: &[Vec<u8>], end: &[u8]) -> Vec<u8> {
     lines.iter().flat_map(|line| [line, end].concat()).chain(end.to_vec()).collect()
 }
 
-/// A redirect's head.
-fn redirect(random: &mut Random, authorized: bool) -> Vec<u8> {
-    let location = location(random);
-    redirect_to(random, authorized, &location)
-}
-
-/// A redirect's head with this Location.
-pub fn redirect_to(random: &mut Random, authorized: bool, location: &[u8]) -> Vec<u8> {
-    let lines = redirect_lines(random, authorized, location);
-    finished(random, lines)
-}
-
-/// An answer's head.
-pub fn answer(random: &mut Random, right: bool) -> Vec<u8> {
-    let lines = answer_lines(random, right);
+/// A head that says this.
+pub fn head(random: &mut Random, says: &Head) -> Vec<u8> {
+    let lines = lines(random, says);
     finished(random, lines)
 }
 
@@ -178,29 +213,31 @@ pub fn lengthen(random: &mut Random, lines: &mut Lines, length: usize) {
     lines.insert(1 + random.below(lines.len()), line.into_bytes());
 }
 
+/// The lines of a head that says this.
+pub fn lines(random: &mut Random, says: &Head) -> Lines {
+    match says {
+        Head::Redirect(redirect) => redirect_lines(random, redirect),
+        Head::Answer(answer) => answer_lines(random, answer),
+    }
+}
+
 /// The lines of a redirect.
-pub fn redirect_lines(random: &mut Random, authorized: bool, location: &[u8]) -> Lines {
-    let status = [300, 300, 301, 302, 303, 304, 305, 307, 308, 350, 399, 399][random.below(12)];
-    let mut fields = vec![field(random, "Location", location)];
-    let seen = headers(random, authorized);
+fn redirect_lines(random: &mut Random, redirect: &Redirect) -> Lines {
+    let mut fields = vec![field(random, "Location", &redirect.location)];
+    let seen = headers(random, redirect.header_seen);
     add(random, &mut fields, "FIDO-AppID-Redirect-Authorized", seen);
     if random.chance(40) {
         let right = random.chance(50);
         let types = types(random, right);
         add(random, &mut fields, "Content-Type", types);
     }
-    lines(random, status, fields)
+    with_others(random, redirect.status, fields)
 }
 
 /// The lines of an answer.
-pub fn answer_lines(random: &mut Random, right: bool) -> Lines {
-    let status = match random.below(3) {
-        0 => 200,
-        1 => [0, 99, 100, 199, 201, 204, 298, 299][random.below(8)],
-        _ => [400, 401, 404, 410, 500, 503, 600, 999][random.below(8)],
-    };
+fn answer_lines(random: &mut Random, answer: &Answer) -> Lines {
     let mut fields = Vec::new();
-    let types = types(random, right);
+    let types = types(random, answer.type_seen);
     add(random, &mut fields, "Content-Type", types);
     // They mean nothing here.
     if random.chance(40) {
@@ -210,7 +247,7 @@ pub fn answer_lines(random: &mut Random, right: bool) -> Lines {
         let seen = headers(random, authorized);
         add(random, &mut fields, "FIDO-AppID-Redirect-Authorized", seen);
     }
-    lines(random, status, fields)
+    with_others(random, answer.status, fields)
 }
 
 /// Adds field lines of one name, in their order, between the others.
@@ -224,7 +261,7 @@ fn add(random: &mut Random, fields: &mut Lines, name: &str, values: Vec<Vec<u8>>
 }
 
 /// A status line and these field lines, others between them.
-fn lines(random: &mut Random, status: u16, mut fields: Lines) -> Lines {
+fn with_others(random: &mut Random, status: u16, mut fields: Lines) -> Lines {
     let many = [1, 4, 4, 4, 4, 4, 4, 4, 4, 20][random.below(10)];
     for _ in 0..random.below(many) {
         let other = other(random);
@@ -301,12 +338,17 @@ fn first(random: &mut Random, is_right: bool, right: &[&[u8]], wrong: &[&[u8]]) 
 
 // ---- outputs
 
-/// A start, and outputs of any bytes, for the outcome.
-fn outputs(random: &mut Random, head: &[u8], outcome: Outcome) -> (u32, Vec<u8>, Vec<u8>) {
-    let says = model::read(head);
+/// The head, which says this, with a start and outputs of any bytes for the outcome.
+fn with_outputs(
+    random: &mut Random,
+    head: Vec<u8>,
+    says: Option<&Head>,
+    outcome: Outcome,
+    known: Known,
+) -> Made {
     let is_redirect = matches!(says, Some(Head::Redirect(_)));
-    let (item, text) = match &says {
-        Some(head) => (head.item(0).len(), head.text().len()),
+    let (item, text) = match says {
+        Some(says) => (says.item(0).len(), says.text().len()),
         None => (8, [0, 40, head.len()][random.below(3)]),
     };
     // Refusal 16 comes before 15, which may have more causes than one; an answer asks nothing of its start.
@@ -321,7 +363,8 @@ fn outputs(random: &mut Random, head: &[u8], outcome: Outcome) -> (u32, Vec<u8>,
     let starts = [0, 1, 255, 256, 65_534, 65_535, random.below(65_536) as u32];
     let far_starts = [65_536, 65_537, 131_071, 1 << 24, u32::MAX, 65_536 + random.below(65_536) as u32];
     let start = if far { far_starts[random.below(6)] } else { starts[random.below(7)] };
-    (start, output(random, item, short_item), output(random, text, short_text))
+    let (item, text) = (output(random, item, short_item), output(random, text, short_text));
+    Made { head, start, item, text, known }
 }
 
 /// An output that is long enough for so many bytes, or is not.
