@@ -1,8 +1,7 @@
 //! Cases written by hand from the request: what is written, names, values, repeated lines.
 
-use super::{
-    answer, found, head_of, is_content, is_tchar, ok, redirect, refused, AUTHORIZED, LOCATION, TYPE, URL,
-};
+use super::{answer, found, head_of, ok, redirect, refused, AUTHORIZED, LOCATION, TYPE, URL};
+use crate::model::head::{is_content, is_tchar};
 use facets_hub::{read_head, Head, Refusal};
 
 // ---- what is written
@@ -70,7 +69,7 @@ fn exchanged(line: &str) -> impl Iterator<Item = (Vec<u8>, bool)> + '_ {
 /// Whether what stands before the first colon, or all, is a name.
 fn begins_with_a_name(line: &[u8]) -> bool {
     let name = line.split(|&byte| byte == b':').next().unwrap_or_default();
-    !name.is_empty() && name.iter().all(|&byte| is_tchar(byte))
+    !name.is_empty() && name.iter().all(|&byte| is_tchar(byte.into()))
 }
 
 /// The letter's other case, or another byte, at every place of each name that counts.
@@ -171,7 +170,7 @@ fn the_authorized_header_counts_only_as_true() {
         redirect(found(&[&format!("FIDO-AppID-Redirect-Authorized: {value}"), LOCATION]), 302, false, URL);
     }
     for (value, _) in exchanged("true") {
-        if value.iter().all(|&byte| is_content(byte)) && value != b"true" {
+        if value.iter().all(|&byte| is_content(byte.into())) && value != b"true" {
             let line = [b"FIDO-AppID-Redirect-Authorized: ", &value[..]].concat();
             redirect(found(&[line, LOCATION.into()]), 302, false, URL);
         }
@@ -224,7 +223,7 @@ fn the_content_type_counts_up_to_its_first_semicolon() {
     }
     for (value, same) in exchanged(right) {
         let head = ok(&[[b"Content-Type: ", &value[..]].concat()]);
-        match value.iter().all(|&byte| is_content(byte)) {
+        match value.iter().all(|&byte| is_content(byte.into())) {
             true => answer(head, 200, same),
             false => refused(head),
         }

@@ -6,7 +6,7 @@ use crate::{
         bad_head::FAULTS,
         head::{any, Known, Made, Outcome, OUTCOMES},
     },
-    model::head::{parse, read, write, Field, Head, Short},
+    model::head::{named, parse, read, write, Field, Head, Short},
     random::Random,
 };
 use std::collections::BTreeMap;
@@ -59,12 +59,8 @@ impl Seen<'_> {
         (300..=399).contains(&self.status)
     }
 
-    fn named(&self, name: &str) -> Vec<&Field> {
-        self.fields.iter().filter(|field| field.0.eq_ignore_ascii_case(name)).collect()
-    }
-
-    fn values(&self, name: &str) -> Vec<&str> {
-        self.named(name).iter().map(|field| field.1.as_str()).collect()
+    fn values<'a>(&'a self, name: &'a str) -> Vec<&'a str> {
+        named(&self.fields, name).map(|field| field.1.as_str()).collect()
     }
 
     fn is_spelled(&self, names: &[&str]) -> bool {
@@ -73,8 +69,9 @@ impl Seen<'_> {
 
     /// Whether a later line of the name has it in another case than the first.
     fn repeats_in_another_case(&self, name: &str) -> bool {
-        let named = self.named(name);
-        named.iter().any(|field| field.0 != named[0].0)
+        let mut named = named(&self.fields, name);
+        let first = named.next();
+        first.is_some_and(|first| named.any(|field| field.0 != first.0))
     }
 
     /// Whether a redirect's first authorized line, and one behind it, are such.

@@ -1,8 +1,7 @@
 //! The grammar of RFC 9112, taken strictly: status line, field lines and their ends, by hand and over all bytes.
 
-use super::{
-    answer, found, head_of, is_content, is_tchar, ok, redirect, refused, AUTHORIZED, LOCATION, TYPE, URL,
-};
+use super::{answer, found, head_of, ok, redirect, refused, AUTHORIZED, LOCATION, TYPE, URL};
+use crate::model::head::{is_content, is_tchar};
 
 // ---- the status line
 
@@ -147,7 +146,7 @@ fn every_byte_in_a_reason() {
     for byte in 0..=255u8 {
         for reason in [vec![byte], vec![b'O', byte, b'K'], vec![b'O', b'K', byte], vec![byte, b'O']] {
             let head = head_of([b"HTTP/1.1 200 ", &reason[..]].concat(), &[TYPE]);
-            if is_content(byte) {
+            if is_content(byte.into()) {
                 answer(head, 200, true);
             } else {
                 refused(head);
@@ -183,7 +182,7 @@ fn every_byte_in_a_name() {
         for (before, after) in [("", ""), ("", "x"), ("x", "x"), ("x", "")] {
             let line = [before.as_bytes(), &[byte], after.as_bytes(), b": v"].concat();
             // A colon ends the name, where there is one.
-            if is_tchar(byte) || byte == b':' && !before.is_empty() {
+            if is_tchar(byte.into()) || byte == b':' && !before.is_empty() {
                 redirect(found(&[&line[..], LOCATION.as_bytes()]), 302, false, URL);
                 answer(ok(&[&line[..], TYPE.as_bytes()]), 200, true);
             } else {
@@ -202,7 +201,7 @@ fn every_byte_in_a_value() {
         {
             let other = [b"x:", &value[..]].concat();
             let location = [b"Location: ", &value[..]].concat();
-            if is_content(byte) {
+            if is_content(byte.into()) {
                 answer(ok(&[&other[..], TYPE.as_bytes()]), 200, true);
                 // A Location's bytes are copied, not judged.
                 let blank = byte == b' ' || byte == b'\t';

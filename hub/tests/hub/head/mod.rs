@@ -93,13 +93,3 @@ fn found<L: AsRef<[u8]>>(fields: &[L]) -> Vec<u8> {
 fn ok<L: AsRef<[u8]>>(fields: &[L]) -> Vec<u8> {
     head_of("HTTP/1.1 200 OK", fields)
 }
-
-/// What a reason and a value are made of: HTAB, SP, 0x21 to 0x7E, 0x80 to 0xFF.
-fn is_content(byte: u8) -> bool {
-    byte == 0x09 || (0x20..=0x7E).contains(&byte) || byte >= 0x80
-}
-
-/// What a name is made of.
-fn is_tchar(byte: u8) -> bool {
-    byte.is_ascii_alphanumeric() || b"!#$%&'*+-.^_`|~".contains(&byte)
-}

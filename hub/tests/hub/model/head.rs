@@ -20,17 +20,12 @@ pub fn read(head: &[u8]) -> Option<Head> {
         return None;
     }
     let (status, fields) = parse(head)?;
-    // Header names compare without case.
-    let values = |name: &str| {
-        let named = fields.iter().filter(|field| field.0.eq_ignore_ascii_case(name));
-        named.map(|field| field.1.as_str()).collect::<Vec<_>>()
-    };
+    let values = |name| named(&fields, name).map(|field| field.1.as_str());
     // Of repeated lines of one name the first counts.
-    let first = |name: &str| values(name).into_iter().next();
+    let first = |name| values(name).next();
     // A status from 300 to 399 makes a redirect and needs exactly one Location line;
     if (300..=399).contains(&status) {
-        let locations = values("Location");
-        let [location] = locations[..] else {
+        let [location] = values("Location").collect::<Vec<_>>()[..] else {
             return None;
         };
         // `FIDO-AppID-Redirect-Authorized` counts only with the value `true`.
@@ -40,6 +35,11 @@ pub fn read(head: &[u8]) -> Option<Head> {
     // any other makes an answer.
     let type_seen = first("Content-Type").is_some_and(is_right_type);
     Some(Head::Answer(Answer { status, type_seen }))
+}
+
+/// The lines of a name. Header names compare without case.
+pub fn named<'a>(fields: &'a [Field], name: &'a str) -> impl Iterator<Item = &'a Field> {
+    fields.iter().filter(move |field| field.0.eq_ignore_ascii_case(name))
 }
 
 /// Content type is right where it equals `application/fido.trusted-apps+json` without case, up to its first `;`
@@ -74,25 +74,43 @@ pub fn bytes(text: &str) -> Vec<u8> {
 
 /// `HTTP/` DIGIT `.` DIGIT SP 3DIGIT SP and a reason that may be empty.
 fn status(line: &str) -> Option<u16> {
-    let (start, reason) = line.split_at_checked("HTTP/0.0 000 ".len())?;
-    let zeros: String = start.chars().map(|c| if c.is_ascii_digit() { '0' } else { c }).collect();
-    (zeros == "HTTP/0.0 000 " && is_content(reason)).then(|| start[9..12].parse().expect("three digits"))
+    let (protocol, line) = line.split_once('/')?;
+    let (major, line) = line.split_once('.')?;
+    let (minor, line) = line.split_once(' ')?;
+    let (status, reason) = line.split_once(' ')?;
+    let is_good = protocol == "HTTP"
+        && are_digits(major, 1)
+        && are_digits(minor, 1)
+        && are_digits(status, 3)
+        && reason.chars().all(is_content);
+    is_good.then(|| status.parse().expect("three digits"))
+}
+
+/// So many of `0` to `9`.
+fn are_digits(text: &str, count: usize) -> bool {
+    text.len() == count && text.chars().all(|c| c.is_ascii_digit())
 }
 
 /// A token, `:` directly behind it, the value. Optional spaces and tabs around a value are dropped.
 fn field(line: &str) -> Option<Field> {
     let (name, value) = line.split_once(':')?;
-    (is_token(name) && is_content(value)).then(|| (name.to_owned(), value.trim_matches(BLANKS).to_owned()))
+    (is_token(name) && value.chars().all(is_content))
+        .then(|| (name.to_owned(), value.trim_matches(BLANKS).to_owned()))
 }
 
-/// One byte or more of `!#$%&'*+-.^_|~`, "`", DIGIT, ALPHA.
+/// One byte or more.
 fn is_token(text: &str) -> bool {
-    !text.is_empty() && text.chars().all(|c| c.is_ascii_alphanumeric() || "!#$%&'*+-.^_`|~".contains(c))
+    !text.is_empty() && text.chars().all(is_tchar)
+}
+
+/// What a name is made of: `!#$%&'*+-.^_|~`, "`", DIGIT, ALPHA.
+pub fn is_tchar(c: char) -> bool {
+    c.is_ascii_alphanumeric() || "!#$%&'*+-.^_`|~".contains(c)
 }
 
 /// Reason and value hold HTAB, SP, 0x21 to 0x7E, 0x80 to 0xFF.
-fn is_content(text: &str) -> bool {
-    text.chars().all(|c| matches!(c, '\t' | ' ' | '\x21'..='\x7e' | '\u{80}'..='\u{ff}'))
+pub fn is_content(c: char) -> bool {
+    matches!(c, '\t' | ' ' | '\x21'..='\x7e' | '\u{80}'..='\u{ff}')
 }
 
 /// What of a call is short: the item's output, the Location's, or 2 bytes for a redirect's start.
