@@ -2,7 +2,7 @@
 
 use super::{
     head::{self, answer, ended, field, finished, lengthen, location, other, Lines},
-    table::damage,
+    table::damage_by,
 };
 use crate::random::Random;
 
@@ -204,12 +204,16 @@ fn with_ends(random: &mut Random, among: &[&[u8]]) -> Vec<u8> {
     lines.iter().enumerate().flat_map(|(at, line)| [line, end_of(at)].concat()).collect()
 }
 
+/// Bytes that damage a head, or change its meaning.
+const DAMAGE: &[u8] =
+    b"\r\n\r\n  \t\t::;;,,\"\"()/.=<>?@[]\\{}'!#*+-_`|~0139aAtTxX\0\x0b\x0c\x1f\x7f\x80\xa0\xff";
+
 /// A good head with a byte changed or added or its end cut off, now and then more than once.
 pub fn damaged(random: &mut Random) -> Vec<u8> {
     let mut head = good(random);
-    damage(random, &mut head);
+    damage_by(random, &mut head, DAMAGE);
     while random.chance(30) {
-        damage(random, &mut head);
+        damage_by(random, &mut head, DAMAGE);
     }
     head
 }

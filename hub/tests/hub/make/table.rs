@@ -59,10 +59,15 @@ pub fn line_of(random: &mut Random, rule: Vec<u8>) -> Vec<u8> {
     }
 }
 
-/// Changes, adds or cuts one byte.
+/// Changes or adds one byte, or cuts the rest off.
 pub fn damage(random: &mut Random, bytes: &mut Vec<u8>) {
+    damage_by(random, bytes, DAMAGE);
+}
+
+/// Changes or adds one byte, it being one of these, or cuts the rest off.
+pub fn damage_by(random: &mut Random, bytes: &mut Vec<u8>, among: &[u8]) {
     let at = random.below(bytes.len() + 1);
-    let byte = DAMAGE[random.below(DAMAGE.len())];
+    let byte = among[random.below(among.len())];
     match random.below(3) {
         0 => bytes.insert(at, byte),
         1 if at < bytes.len() => bytes[at] = byte,
