@@ -2,20 +2,20 @@
 use mathlib.Core.Path.{_≡_, refl, sym, _∙_}
 use mathlib.Core.List.{[], _∷_, _++_}
 use mathlib.Core.Bool.{Bool, true, false, _&&_, _||_}
-use mathlib.Core.Option.{some}
+use mathlib.Core.Option.{Option, none, some}
 use Prim.Native.Nat.{ℕ, zero, suc, _+_, _-_, _*_, _≤_, _<_}
 use native.Mathlib.Omega.{arith}
-use borrow.Author.Tests.{le-leb, lt-leb, leb-true, leb-false, eqb-true, ltb-true}
+use borrow.Author.Tests.{le-leb, lt-leb, leb-true, eqb-true}
 use lib.ListN.{length, drop}
 use lib.Seq.{drop-drop}
 use lib.Dec.{eqb, leb, ltb}
 use Rattle.ascii.specs.Ascii.{Bytes, if_then_else_, isEmpty, between, among, isDigit, text}
 use Rattle.json_text.specs.Reader.{Read, got, bad, Reader, more, behind, _>>=_, _>>_, give, fail, endOfText, peek, satisfy, oneOf, byteRange, countWhile, many, word, ifNext_then_else_, lead_to_then_else_, eitherRead, _or_, mapped, _giving_, asWritten, verbatim, counted}
 use Rattle.json_text.specs.Utf8.{thenTail, thenTails, multibyteChar, encodeUtf8, Due, due, leadByte, nextByte, utf8From, isUtf8}
-use Rattle.json_text.specs.Lexical.{isBlank, ws, digits, int, frac, exp, readNumber, unescaped, hexValue, hexDigit, hex4, lowAfter, codePoint, escaped, readChar, readChars, readString}
+use Rattle.json_text.specs.Lexical.{isBlank, ws, digits, int, frac, exp, readNumber, unescaped, hexValue, byteFor, hexDigit, hex4, lowAfter, codePoint, escaped, readChar, readChars, readString}
 use Rattle.json.specs.Json.{Json, number, string, array, object, toItems, toMembers, items, listed, readMember, readArray, readObject, valueOf, readValue, readText, valueRead, readJson}
 use Rattle.json_text.proofs.Steps.{inside, above}
-use Rattle.json_text.proofs.EscapeSteps.{hex-high}
+use Rattle.json_text.proofs.EscapeSteps.{hex-last}
 
 abbrev pub start : Due
 start = due 0 0 0
@@ -315,24 +315,17 @@ whole-unescaped =
 
 -- ---- escapes, strings
 
-hex-ascii : (b : ℕ) → ltb (hexValue b) 16 ≡ true → b ≤ 0x7F
-hex-ascii b e = go (leb b 102) refl
-  where
-    go : (t : Bool) → leb b 102 ≡ t → b ≤ 0x7F
-    go true k = omega (arith, leb-true b 102 k)
-    go false k = absurd (omega (arith, ltb-true (hexValue b) 16 e, hex-high b (leb-false b 102 k)))
-
 whole-hex : Whole hexDigit
-unfolding hexDigit peek
+unfolding hexDigit hexValue byteFor peek
 whole-hex = record { at = go }
   where
-    hex-one : (l : Bytes) (v : ℕ) (t : Bool) → (t ≡ true → utf8From start l ≡ utf8From start (drop 1 l)) → Goes start start l (if t then got v 1 else bad)
-    hex-one l v true h = h refl
-    hex-one l v false h = tt
+    hex-one : (l : Bytes) (o : Option ℕ) → ((v : ℕ) → o ≡ some v → utf8From start l ≡ utf8From start (drop 1 l)) → Goes start start l (byteFor o)
+    hex-one l (some v) h = h v refl
+    hex-one l none h = tt
 
     go : (l : Bytes) → Goes start start l (hexDigit l)
-    go [] = hex-one [] (hexValue 256) (ltb (hexValue 256) 16) (λ e. absurd (omega (arith, hex-ascii 256 e)))
-    go (b ∷ l) = hex-one (b ∷ l) (hexValue b) (ltb (hexValue b) 16) (λ e. step-ascii b l (hex-ascii b e))
+    go [] = tt
+    go (b ∷ l) = hex-one (b ∷ l) (hexValue b) (λ v e. step-ascii b l (omega (arith, hex-last b v e)))
 
 whole-hex4 : Whole hex4
 unfolding hex4

@@ -1,100 +1,155 @@
 -- The ways through an escape.
-use mathlib.Core.Path.{_≡_, refl}
+use mathlib.Core.Path.{_≡_, refl, sym, _∙_, subst}
 use mathlib.Core.Bool.{Bool, true, false, _&&_}
 use mathlib.Core.List.{[], _∷_}
+use mathlib.Core.Option.{Option, none, some}
 use Prim.Native.Nat.{ℕ, _+_, _-_, _*_, _≤_, _<_}
 use native.Mathlib.Omega.{arith}
-use mir.Syntax.{w64}
+use mir.Syntax.{w32}
 use mir.Val.{Fits}
-use Prim.Native.Nat.{_^_}
-use lib.Dec.{leb}
-use lib.ListN.{length}
-use borrow.Author.Tests.{lt-ltb, le-ltb, leb-true, leb-false}
+use lib.Dec.{T, leb, ltb, ltb→lt}
+use lib.ListN.{length, drop, getD, drop-of-length-le}
+use lib.Seq.{drop-cons}
+use borrow.Author.Tests.{leb-true, leb-false}
 use Rattle.ascii.specs.Ascii.{Bytes, between}
-use Rattle.json_text.specs.Reader.{got, bad, more, behind, _>>=_, satisfy, word, give, lead_to_then_else_}
-use Rattle.json_text.specs.Lexical.{hexValue, hexDigit, hex4, lowAfter, codePoint, escaped}
-use Rattle.json_text.specs.code.Places.{Peeked, readAt, placeOf, pointOf}
+use Rattle.json_text.specs.Reader.{got, peek, more, behind, _>>=_, satisfy, word, give, lead_to_then_else_}
+use Rattle.json_text.specs.Lexical.{hexValue, byteFor, hexDigit, hex4, lowAfter, codePoint, escaped}
+use Rattle.json_text.specs.code.Places.{Peeked, readAt, placeOf, pointOf, digitOf}
 use Rattle.json_text.specs.declared.Next.{Next}
 use Rattle.json_text.specs.declared.Next.the-variants.{At, Bad}
 use Rattle.json_text.specs.declared.Point.{Point}
 use Rattle.json_text.specs.declared.Point.the-variants.{Code, Wrong}
-use Rattle.json_text.proofs.Steps.{on, then-bad, lead-yes, lead-no, give-at, fail-at, found, missed, point-found, point-missed, inside, under, above, peek-in}
+use Rattle.json_text.specs.declared.Digit.{Digit}
+use Rattle.json_text.specs.declared.Digit.the-variants.{Number, Other}
+use Rattle.ascii.proofs.Bytes.{each}
+use Rattle.json_text.proofs.Steps.{on, then-bad, lead-yes, lead-no, give-at, fail-at, found, missed, point-found, point-missed, inside, under, above}
 
 -- ---- one hexadecimal digit
 
 module _ (b : ℕ) where
-  pub hex-low : b < 48 → 16 ≡ hexValue b
-  unfolding hexValue
+  pub hex-low : b < 48 → Other ≡ digitOf (hexValue b)
+  unfolding hexValue digitOf
   hex-low h = rw (under 48 57 b h, under 65 70 b (omega arith), under 97 102 b (omega arith))
 
-  pub hex-decimal : 48 ≤ b → b ≤ 57 → b - 48 ≡ hexValue b
-  unfolding hexValue
-  hex-decimal h k = rw (inside 48 57 b h k)
+  pub hex-decimal : 48 ≤ b → b < 58 → Number (b - 48) ≡ digitOf (hexValue b)
+  unfolding hexValue digitOf
+  hex-decimal h k = rw (inside 48 57 b h (omega arith))
 
-  pub hex-between : 57 < b → b < 65 → 16 ≡ hexValue b
-  unfolding hexValue
+  pub hex-between : 58 ≤ b → b < 65 → Other ≡ digitOf (hexValue b)
+  unfolding hexValue digitOf
   hex-between h k = rw (above 48 57 b h, under 65 70 b k, under 97 102 b (omega arith))
 
-  pub hex-upper : 65 ≤ b → b ≤ 70 → b - 65 + 10 ≡ hexValue b
-  unfolding hexValue
-  hex-upper h k = rw (above 48 57 b (omega arith), inside 65 70 b h k)
+  pub hex-upper : 65 ≤ b → b < 71 → Number (b - 65 + 10) ≡ digitOf (hexValue b)
+  unfolding hexValue digitOf
+  hex-upper h k = rw (above 48 57 b (omega arith), inside 65 70 b h (omega arith))
 
-  pub hex-middle : 70 < b → b < 97 → 16 ≡ hexValue b
-  unfolding hexValue
+  pub hex-middle : 71 ≤ b → b < 97 → Other ≡ digitOf (hexValue b)
+  unfolding hexValue digitOf
   hex-middle h k = rw (above 48 57 b (omega arith), above 65 70 b h, under 97 102 b k)
 
-  pub hex-lower : 97 ≤ b → b ≤ 102 → b - 97 + 10 ≡ hexValue b
-  unfolding hexValue
-  hex-lower h k = rw (above 48 57 b (omega arith), above 65 70 b (omega arith), inside 97 102 b h k)
+  pub hex-lower : 97 ≤ b → b < 103 → Number (b - 97 + 10) ≡ digitOf (hexValue b)
+  unfolding hexValue digitOf
+  hex-lower h k = rw (above 48 57 b (omega arith), above 65 70 b (omega arith), inside 97 102 b h (omega arith))
 
-  pub hex-high : 102 < b → 16 ≡ hexValue b
-  unfolding hexValue
+  pub hex-high : 103 ≤ b → Other ≡ digitOf (hexValue b)
+  unfolding hexValue digitOf
   hex-high h = rw (above 48 57 b (omega arith), above 65 70 b (omega arith), above 97 102 b h)
 
-  hex-byte : hexValue b ≤ 15 → b < 256
-  hex-byte h = go (leb b 102) refl
-    where
-      go : (t : Bool) → leb b 102 ≡ t → b < 256
-      go true e = omega (arith, leb-true b 102 e)
-      go false e = absurd (omega (arith, hex-high (leb-false b 102 e)))
+digit-found : {q : Digit} {v : ℕ} (o : Option ℕ) → q ≡ digitOf o → q ≡ Number v → o ≡ some v
+unfolding digitOf
+digit-found (some w) e h = cc
+digit-found none e h = let z : _≡_ {A = ℕ} 0 1 = cc in absurd (omega arith)
 
-pub fits-hex : (s : Bytes) (k b a : ℕ) → Peeked s k b → a ≡ hexValue b → a ≤ 15 → length s < 2 ^ 64 → Fits w64 (k + 1)
-fits-hex s k b a g e h l = record { fits = omega (arith, peek-in s k (omega (arith, hex-byte b (omega arith)))) }
+digit-missed : {q : Digit} (o : Option ℕ) → q ≡ digitOf o → q ≡ Other → o ≡ none
+unfolding digitOf
+digit-missed (some w) e h = let z : _≡_ {A = ℕ} 0 1 = cc in absurd (omega arith)
+digit-missed none e h = refl
 
-module _ {s : Bytes} {i b a : ℕ} (g : Peeked s i b) (e : a ≡ hexValue b) where
-  hex-yes : a ≤ 15 → readAt hexDigit s i ≡ got a (i + 1)
-  unfolding readAt hexDigit more
-  hex-yes h = rw (← g .is, ← e, lt-ltb a 16 (omega arith))
+-- no byte above `f` has a number
+pub hex-last : (b v : ℕ) → hexValue b ≡ some v → b ≤ 102
+hex-last b v e = go (leb b 102) refl
+  where
+    go : (t : Bool) → leb b 102 ≡ t → b ≤ 102
+    go true k = leb-true b 102 k
+    go false k = let z : _≡_ {A = Option ℕ} none (some v) = sym (digit-missed _ refl (sym (hex-high b (leb-false b 102 k)))) ∙ e in let y : _≡_ {A = ℕ} 0 1 = cc in absurd (omega arith)
 
-  hex-no : 15 < a → readAt hexDigit s i ≡ bad
-  unfolding readAt hexDigit more
-  hex-no h = rw (← g .is, ← e, le-ltb a 16 (omega arith))
+module _ (s : Bytes) (i : ℕ) where
+  pub digit-past : length s ≤ i → Wrong ≡ pointOf (readAt hexDigit s i)
+  unfolding readAt hexDigit hexValue byteFor peek more pointOf
+  digit-past h = rw (drop-of-length-le s h)
+
+  module _ (h : i < length s) {q : Digit} (e : q ≡ digitOf (hexValue (getD s i 0))) where
+    pub digit-none : q ≡ Other → Wrong ≡ pointOf (readAt hexDigit s i)
+    unfolding readAt hexDigit byteFor peek more pointOf
+    digit-none k = rw (drop-cons s i 0 h, digit-missed _ e k)
+
+    pub digit-some : {v : ℕ} → q ≡ Number v → Code v (i + 1) ≡ pointOf (readAt hexDigit s i)
+    unfolding readAt hexDigit byteFor peek more pointOf
+    digit-some k = rw (drop-cons s i 0 h, digit-found _ e k)
 
 -- ---- four of them
 
-module _ (s : Bytes) (i : ℕ) {b a : ℕ} (g : Peeked s i b) (e : a ≡ hexValue b) where
-  pub hex4-first : 15 < a → Wrong ≡ pointOf (readAt hex4 s i)
+module _ (s : Bytes) (i : ℕ) {q : Point} (e : q ≡ pointOf (readAt hexDigit s i)) where
+  pub hex4-first : q ≡ Wrong → Wrong ≡ pointOf (readAt hex4 s i)
   unfolding hex4 pointOf
-  hex4-first h = rw (then-bad _ _ _ _ (hex-no g e h))
+  hex4-first h = rw (then-bad _ _ _ _ (point-missed _ e h))
 
-  module _ (h : a ≤ 15) {b2 a2 : ℕ} (g2 : Peeked s (i + 1) b2) (e2 : a2 ≡ hexValue b2) where
-    pub hex4-second : 15 < a2 → Wrong ≡ pointOf (readAt hex4 s i)
+  module _ {a j : ℕ} (h : q ≡ Code a j) {q2 : Point} (e2 : q2 ≡ pointOf (readAt hexDigit s j)) where
+    pub hex4-second : q2 ≡ Wrong → Wrong ≡ pointOf (readAt hex4 s i)
     unfolding hex4 pointOf
-    hex4-second k = rw (on _ _ _ _ (hex-yes g e h), then-bad _ _ _ _ (hex-no g2 e2 k))
+    hex4-second k = rw (on _ _ _ _ (point-found _ e h), then-bad _ _ _ _ (point-missed _ e2 k))
 
-    module _ (h2 : a2 ≤ 15) {b3 a3 : ℕ} (g3 : Peeked s (i + 1 + 1) b3) (e3 : a3 ≡ hexValue b3) where
-      pub hex4-third : 15 < a3 → Wrong ≡ pointOf (readAt hex4 s i)
+    module _ {a2 j2 : ℕ} (h2 : q2 ≡ Code a2 j2) {q3 : Point} (e3 : q3 ≡ pointOf (readAt hexDigit s j2)) where
+      pub hex4-third : q3 ≡ Wrong → Wrong ≡ pointOf (readAt hex4 s i)
       unfolding hex4 pointOf
-      hex4-third k = rw (on _ _ _ _ (hex-yes g e h), on _ _ _ _ (hex-yes g2 e2 h2), then-bad _ _ _ _ (hex-no g3 e3 k))
+      hex4-third k = rw (on _ _ _ _ (point-found _ e h), on _ _ _ _ (point-found _ e2 h2), then-bad _ _ _ _ (point-missed _ e3 k))
 
-      module _ (h3 : a3 ≤ 15) {b4 a4 : ℕ} (g4 : Peeked s (i + 1 + 1 + 1) b4) (e4 : a4 ≡ hexValue b4) where
-        pub hex4-fourth : 15 < a4 → Wrong ≡ pointOf (readAt hex4 s i)
+      module _ {a3 j3 : ℕ} (h3 : q3 ≡ Code a3 j3) {q4 : Point} (e4 : q4 ≡ pointOf (readAt hexDigit s j3)) where
+        pub hex4-fourth : q4 ≡ Wrong → Wrong ≡ pointOf (readAt hex4 s i)
         unfolding hex4 pointOf
-        hex4-fourth k = rw (on _ _ _ _ (hex-yes g e h), on _ _ _ _ (hex-yes g2 e2 h2), on _ _ _ _ (hex-yes g3 e3 h3), then-bad _ _ _ _ (hex-no g4 e4 k))
+        hex4-fourth k = rw (on _ _ _ _ (point-found _ e h), on _ _ _ _ (point-found _ e2 h2), on _ _ _ _ (point-found _ e3 h3), then-bad _ _ _ _ (point-missed _ e4 k))
 
-        pub hex4-all : a4 ≤ 15 → Code (a * 0x1000 + a2 * 0x100 + a3 * 0x10 + a4) (i + 1 + 1 + 1 + 1) ≡ pointOf (readAt hex4 s i)
+        pub hex4-all : {a4 j4 : ℕ} → q4 ≡ Code a4 j4 → Code (a * 0x1000 + a2 * 0x100 + a3 * 0x10 + a4) j4 ≡ pointOf (readAt hex4 s i)
         unfolding hex4 pointOf
-        hex4-all h4 = rw (on _ _ _ _ (hex-yes g e h), on _ _ _ _ (hex-yes g2 e2 h2), on _ _ _ _ (hex-yes g3 e3 h3), on _ _ _ _ (hex-yes g4 e4 h4), give-at)
+        hex4-all h4 = rw (on _ _ _ _ (point-found _ e h), on _ _ _ _ (point-found _ e2 h2), on _ _ _ _ (point-found _ e3 h3), on _ _ _ _ (point-found _ e4 h4), give-at)
+
+-- a digit's number is at most 15: the four and their sum stay below 2 ^ 16
+isSmall : Option ℕ → Bool
+isSmall (some v) = ltb v 16
+isSmall none = true
+
+hex-small : (b v : ℕ) → hexValue b ≡ some v → v < 16
+unfolding isSmall hexValue
+hex-small b v e = ltb→lt v 16 (subst (λ o. T (isSmall o)) e (each 256 (λ b. isSmall (hexValue b)) tt b (omega (arith, hex-last b v e))))
+
+digit-small : (s : Bytes) (i : ℕ) {q : Point} {a j : ℕ} → q ≡ Code a j → q ≡ pointOf (readAt hexDigit s i) → a < 16
+unfolding readAt hexDigit byteFor more
+digit-small s i {a = a} {j = j} h e = go (hexValue (peek (drop i s))) refl (point-found _ e h)
+  where
+    go : (o : Option ℕ) → hexValue (peek (drop i s)) ≡ o → readAt hexDigit s i ≡ got a j → a < 16
+    go (some v) k l = let z : v ≡ a = cc in subst (λ n. n < 16) z (hex-small _ v k)
+    go none k l = let z : _≡_ {A = ℕ} 0 1 = cc in absurd (omega arith)
+
+module _ (s : Bytes) (i : ℕ) {q : Point} {a j : ℕ} (h : q ≡ Code a j) (e : q ≡ pointOf (readAt hexDigit s i)) where
+  pub fits-4096 : Fits w32 (a * 4096)
+  fits-4096 = record { fits = omega (arith, digit-small s i h e) }
+
+  pub fits-256 : Fits w32 (a * 256)
+  fits-256 = record { fits = omega (arith, digit-small s i h e) }
+
+  pub fits-16 : Fits w32 (a * 16)
+  fits-16 = record { fits = omega (arith, digit-small s i h e) }
+
+  module _ (i2 : ℕ) {q2 : Point} {a2 j2 : ℕ} (h2 : q2 ≡ Code a2 j2) (e2 : q2 ≡ pointOf (readAt hexDigit s i2)) where
+    pub fits-two : Fits w32 (a * 4096 + a2 * 256)
+    fits-two = record { fits = omega (arith, digit-small s i h e, digit-small s i2 h2 e2) }
+
+    module _ (i3 : ℕ) {q3 : Point} {a3 j3 : ℕ} (h3 : q3 ≡ Code a3 j3) (e3 : q3 ≡ pointOf (readAt hexDigit s i3)) where
+      pub fits-three : Fits w32 (a * 4096 + a2 * 256 + a3 * 16)
+      fits-three = record { fits = omega (arith, digit-small s i h e, digit-small s i2 h2 e2, digit-small s i3 h3 e3) }
+
+      pub fits-four : (i4 : ℕ) {q4 : Point} {a4 j4 : ℕ} → q4 ≡ Code a4 j4 → q4 ≡ pointOf (readAt hexDigit s i4) → Fits w32 (a * 4096 + a2 * 256 + a3 * 16 + a4)
+      fits-four i4 h4 e4 = record { fits = omega (arith, digit-small s i h e, digit-small s i2 h2 e2, digit-small s i3 h3 e3, digit-small s i4 h4 e4) }
 
 -- ---- a code point
 

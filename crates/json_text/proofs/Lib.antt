@@ -4,6 +4,7 @@ pub mod Words
 pub mod Bytes
 pub mod NumberSteps
 pub mod Plain
+pub mod HexDigits
 pub mod EscapeSteps
 pub mod Chars
 pub mod Holding

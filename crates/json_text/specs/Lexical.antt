@@ -1,11 +1,12 @@
 -- The lexical grammar of JSON (RFC 8259, sections 2, 6 and 7), with its ABNF above each definition.
 use mathlib.Core.List.{[], _∷_, _++_}
 use mathlib.Core.Bool.{Bool, _||_}
+use mathlib.Core.Option.{Option, none, some}
 use Prim.Native.Nat.{ℕ, zero, suc, _+_, _-_, _*_}
 use Prim.Native.Char.{code}
-use lib.Dec.{eqb, ltb}
+use lib.Dec.{eqb}
 use Rattle.ascii.specs.Ascii.{Bytes, if_then_else_, between, isDigit, text}
-use Rattle.json_text.specs.Reader.{got, bad, Reader, _>>=_, _>>_, give, fail, peek, satisfy, oneOf, byteRange, many, word, ifNext_then_else_, lead_to_then_else_, _or_, optional, _giving_, verbatim, counted}
+use Rattle.json_text.specs.Reader.{Read, got, bad, Reader, _>>=_, _>>_, give, fail, peek, satisfy, oneOf, byteRange, many, word, ifNext_then_else_, lead_to_then_else_, _or_, optional, _giving_, verbatim, counted}
 use Rattle.json_text.specs.Utf8.{multibyteChar, encodeUtf8}
 
 -- ---- section 2: blanks
@@ -49,16 +50,22 @@ unescaped =
     lead 0x5D to 0x7F then give tt else
     multibyteChar
 
--- the value of a hexadecimal digit; 16 for any other byte
-unfoldable pub hexValue : ℕ → ℕ
+-- HEXDIG = DIGIT / "A" / "B" / "C" / "D" / "E" / "F", the letters in upper or lower case: the number of such a digit; none
+-- for any other byte
+unfoldable pub hexValue : ℕ → Option ℕ
 hexValue b =
-    if between (code "0") (code "9") b then b - code "0" else
-    if between (code "A") (code "F") b then b - code "A" + 10 else
-    if between (code "a") (code "f") b then b - code "a" + 10 else
-    16
+    if between (code "0") (code "9") b then some (b - code "0") else
+    if between (code "A") (code "F") b then some (b - code "A" + 10) else
+    if between (code "a") (code "f") b then some (b - code "a" + 10) else
+    none
+
+-- one byte that stands for a number
+unfoldable pub byteFor : Option ℕ → Read ℕ
+byteFor (some v) = got v 1
+byteFor none = bad
 
 unfoldable pub hexDigit : Reader ℕ
-hexDigit s = if ltb (hexValue (peek s)) 16 then got (hexValue (peek s)) 1 else bad
+hexDigit s = byteFor (hexValue (peek s))
 
 -- 4HEXDIG
 unfoldable pub hex4 : Reader ℕ

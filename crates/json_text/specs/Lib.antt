@@ -1,4 +1,5 @@
 pub mod Reader
 pub mod Utf8
 pub mod Lexical
+pub mod HexDigits
 pub mod code

@@ -1,4 +1,5 @@
 // Escapes of a string (RFC 8259, section 7), read.
+use super::Digit;
 use super::ESCAPE;
 use super::Next;
 use super::Point;
@@ -6,8 +7,8 @@ use super::QUOTATION_MARK;
 use super::byte_at;
 use super::skip_word;
 ghost use mathlib.Core.Path.{_≡_};
-ghost use Rattle.json_text.specs.Lexical.{hexValue, hex4, codePoint, escaped};
-ghost use Rattle.json_text.specs.code.Places.{readAt, pointOf};
+ghost use Rattle.json_text.specs.Lexical.{hexValue, hexDigit, hex4, codePoint, escaped};
+ghost use Rattle.json_text.specs.code.Places.{readAt, pointOf, digitOf};
 
 const SLASH: u16 = b'/' as u16;
 
@@ -23,69 +24,48 @@ const SMALL_T: u16 = b't' as u16;
 
 const SMALL_U: u16 = b'u' as u16;
 
-// The ends of the hexadecimal digits.
-const DIGIT_0: u32 = b'0' as u32;
-
-const DIGIT_9: u32 = b'9' as u32;
-
-const UPPER_A: u32 = b'A' as u32;
-
-const UPPER_F: u32 = b'F' as u32;
-
-const LOWER_A: u32 = b'a' as u32;
-
-const LOWER_F: u32 = b'f' as u32;
-
-// The value of a hexadecimal digit; 16 for any other byte.
-fn hex_digit(b: u16) -> u32
-    ensures { λ r. ⌜ r ≡ hexValue b ⌝ }
+// HEXDIG (RFC 8259, section 7): the number of a hexadecimal digit.
+fn hex_digit(b: u8) -> Digit
+    ensures { λ r. ⌜ r ≡ digitOf (hexValue b) ⌝ }
 {
-    let x = b as u32;
-    if x < DIGIT_0 {
-        return 16;
+    match b {
+        b'0'..=b'9' => Digit::Number((b - b'0') as u32),
+        b'A'..=b'F' => Digit::Number((b - b'A' + 10) as u32),
+        b'a'..=b'f' => Digit::Number((b - b'a' + 10) as u32),
+        _ => Digit::Other,
     }
-    if x <= DIGIT_9 {
-        return x - DIGIT_0;
-    }
-    if x < UPPER_A {
-        return 16;
-    }
-    if x <= UPPER_F {
-        return x - UPPER_A + 10;
-    }
-    if x < LOWER_A {
-        return 16;
-    }
-    if x <= LOWER_F {
-        return x - LOWER_A + 10;
-    }
-    16
 }
 
-// Four hexadecimal digits.
+// One hexadecimal digit.
+fn read_digit(s: &[u8], from: usize) -> Point
+    ensures { λ r. ⌜ r ≡ pointOf (readAt hexDigit (now (s .entry)) from) ⌝ }
+{
+    if from >= s.len() {
+        return Point::Wrong;
+    }
+    let Digit::Number(v) = hex_digit(s[from]) else {
+        return Point::Wrong;
+    };
+    Point::Code(v, from + 1)
+}
+
+// 4HEXDIG: four hexadecimal digits.
 fn read_hex(s: &[u8], from: usize) -> Point
     ensures { λ r. ⌜ r ≡ pointOf (readAt hex4 (now (s .entry)) from) ⌝ }
 {
-    let a = hex_digit(byte_at(s, from));
-    if a > 15 {
+    let Point::Code(a, i) = read_digit(s, from) else {
         return Point::Wrong;
-    }
-    let i = from + 1;
-    let b = hex_digit(byte_at(s, i));
-    if b > 15 {
+    };
+    let Point::Code(b, j) = read_digit(s, i) else {
         return Point::Wrong;
-    }
-    let j = i + 1;
-    let c = hex_digit(byte_at(s, j));
-    if c > 15 {
+    };
+    let Point::Code(c, k) = read_digit(s, j) else {
         return Point::Wrong;
-    }
-    let k = j + 1;
-    let d = hex_digit(byte_at(s, k));
-    if d > 15 {
+    };
+    let Point::Code(d, end) = read_digit(s, k) else {
         return Point::Wrong;
-    }
-    Point::Code(a * 0x1000 + b * 0x100 + c * 0x10 + d, k + 1)
+    };
+    Point::Code(a * 0x1000 + b * 0x100 + c * 0x10 + d, end)
 }
 
 // What follows `\u`: a code point, or a high surrogate (0xD800 to 0xDBFF), `\u` and a low one (0xDC00 to 0xDFFF); a

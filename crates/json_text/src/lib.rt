@@ -40,6 +40,12 @@ pub enum Point {
     Wrong,
 }
 
+// The number of a hexadecimal digit; or the byte is another one.
+pub enum Digit {
+    Number(u32),
+    Other,
+}
+
 // A decoded string, held by value where it has at most 512 bytes (document 01, "The list"); a length above 512 says
 // that it has more.
 pub struct Decoded {

@@ -12,6 +12,8 @@ use Rattle.json_text.specs.declared.Next.{Next}
 use Rattle.json_text.specs.declared.Next.the-variants.{At, Bad}
 use Rattle.json_text.specs.declared.Point.{Point}
 use Rattle.json_text.specs.declared.Point.the-variants.{Code, Wrong}
+use Rattle.json_text.specs.declared.Digit.{Digit}
+use Rattle.json_text.specs.declared.Digit.the-variants.{Number, Other}
 use Rattle.json_text.specs.declared.Decoded.{Decoded}
 use Rattle.json_text.specs.declared.Progress.{Progress}
 use Rattle.json_text.specs.declared.Progress.the-variants.{On, Stuck}
@@ -27,6 +29,10 @@ placeOf bad = Bad
 unfoldable pub pointOf : Read ℕ → Point
 pointOf (got c j) = Code c j
 pointOf bad = Wrong
+
+unfoldable pub digitOf : Option ℕ → Digit
+digitOf (some v) = Number v
+digitOf none = Other
 
 -- b is the byte at the place i; 256 where there is none
 pub record Peeked (s : Bytes) (i b : ℕ) : Type 0 where

@@ -7,20 +7,26 @@ pub hex-digit-spec : {M : Type 1} → statement M
 hex-digit-spec =
     tie.close
     (tie.spec
+    {- cast-t5 -}
+    (λ c. search hex-fits)
+    {- add-t7 -}
+    (λ c. search hex-fits)
+    {- cast-t8 -}
+    (λ c. search hex-fits)
+    {- add-t10 -}
+    (λ c. search hex-fits)
+    {- cast-t11 -}
+    (λ c. search hex-fits)
     {- returns -}
     (λ c. search escape-laws)
     {- returns-2 -}
     (λ c. search escape-laws)
     {- returns-3 -}
     (λ c. search escape-laws)
-    {- add-result -}
-    (λ c. search hex-fits)
     {- returns-4 -}
     (λ c. search escape-laws)
     {- returns-5 -}
     (λ c. search escape-laws)
-    {- add-result-2 -}
-    (λ c. search hex-fits)
     {- returns-6 -}
     (λ c. search escape-laws)
     {- returns-7 -}

@@ -7,49 +7,49 @@ pub read-hex-spec : {M : Type 1} → statement M
 read-hex-spec =
     tie.close
     (tie.spec
-    {- byte-at-requires -}
+    {- read-digit-requires -}
     (λ c κs. search hex-fits)
-    {- hex-digit-requires -}
-    (λ c κs. search hex-fits)
+    {- enum-known-a -}
+    (λ c. search hex-fits)
+    {- enum-told -}
+    (λ c. search hex-fits)
     {- returns -}
     (λ c. search escape-laws)
-    {- add-i -}
+    {- read-digit-requires-2 -}
+    (λ c κs. search hex-fits)
+    {- enum-known-b -}
     (λ c. search hex-fits)
-    {- byte-at-requires-2 -}
-    (λ c κs. search hex-fits)
-    {- hex-digit-requires-2 -}
-    (λ c κs. search hex-fits)
+    {- enum-told-2 -}
+    (λ c. search hex-fits)
     {- returns-2 -}
     (λ c. search escape-laws)
-    {- add-j -}
+    {- read-digit-requires-3 -}
+    (λ c κs. search hex-fits)
+    {- enum-known-c -}
     (λ c. search hex-fits)
-    {- byte-at-requires-3 -}
-    (λ c κs. search hex-fits)
-    {- hex-digit-requires-3 -}
-    (λ c κs. search hex-fits)
+    {- enum-told-3 -}
+    (λ c. search hex-fits)
     {- returns-3 -}
     (λ c. search escape-laws)
-    {- add-k -}
+    {- read-digit-requires-4 -}
+    (λ c κs. search hex-fits)
+    {- enum-known-d -}
     (λ c. search hex-fits)
-    {- byte-at-requires-4 -}
-    (λ c κs. search hex-fits)
-    {- hex-digit-requires-4 -}
-    (λ c κs. search hex-fits)
+    {- enum-told-4 -}
+    (λ c. search hex-fits)
     {- returns-4 -}
     (λ c. search escape-laws)
-    {- mul-t12 -}
-    (λ c. search hex-fits)
-    {- mul-t13 -}
-    (λ c. search hex-fits)
-    {- add-t14 -}
-    (λ c. search hex-fits)
     {- mul-t15 -}
     (λ c. search hex-fits)
-    {- add-t16 -}
+    {- mul-t16 -}
     (λ c. search hex-fits)
     {- add-t17 -}
     (λ c. search hex-fits)
-    {- add-t18 -}
+    {- mul-t18 -}
+    (λ c. search hex-fits)
+    {- add-t19 -}
+    (λ c. search hex-fits)
+    {- add-t20 -}
     (λ c. search hex-fits)
     {- returns-5 -}
     (λ c. search escape-laws))
