@@ -29,9 +29,9 @@ fn hex_digit(b: u8) -> Digit
     ensures { λ r. ⌜ r ≡ digitOf (hexValue b) ⌝ }
 {
     match b {
-        b'0'..=b'9' => Digit::Number((b - b'0') as u32),
-        b'A'..=b'F' => Digit::Number((b - b'A' + 10) as u32),
-        b'a'..=b'f' => Digit::Number((b - b'a' + 10) as u32),
+        b'0'..=b'9' => Digit::Number(b as u32 - b'0' as u32),
+        b'A'..=b'F' => Digit::Number(b as u32 - b'A' as u32 + 10),
+        b'a'..=b'f' => Digit::Number(b as u32 - b'a' as u32 + 10),
         _ => Digit::Other,
     }
 }

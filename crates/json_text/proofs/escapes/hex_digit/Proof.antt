@@ -9,13 +9,19 @@ hex-digit-spec =
     (tie.spec
     {- cast-t5 -}
     (λ c. search hex-fits)
-    {- add-t7 -}
+    {- sub-t6 -}
     (λ c. search hex-fits)
     {- cast-t8 -}
     (λ c. search hex-fits)
+    {- sub-t9 -}
+    (λ c. search hex-fits)
     {- add-t10 -}
     (λ c. search hex-fits)
-    {- cast-t11 -}
+    {- cast-t12 -}
+    (λ c. search hex-fits)
+    {- sub-t13 -}
+    (λ c. search hex-fits)
+    {- add-t14 -}
     (λ c. search hex-fits)
     {- returns -}
     (λ c. search escape-laws)
