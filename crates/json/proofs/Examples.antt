@@ -3,14 +3,14 @@ use mathlib.Core.Path.{_≡_, refl}
 use mathlib.Core.List.{[], _∷_}
 use mathlib.Core.Option.{none, some}
 use Rattle.ascii.specs.Ascii.{isDigit, text}
-use Rattle.json_text.specs.Reader.{more, behind, _>>=_, give, fail, endOfText, peek, satisfy, countWhile, many, word, ifNext_then_else_, lead_to_then_else_, eitherRead, _or_, mapped, _giving_, asWritten, verbatim, counted}
+use Rattle.json_text.specs.Reader.{more, behind, _>>=_, give, fail, endOfText, peek, satisfy, oneByte, countWhile, many, word, ifNext_then_else_, lead_to_then_else_, eitherRead, _or_, mapped, _giving_, asWritten, verbatim, counted}
 use Rattle.json_text.specs.Utf8.{multibyteChar, encodeUtf8}
-use Rattle.json_text.specs.Lexical.{isBlank, digits, int, frac, exp, readNumber, unescaped, hexValue, byteFor, hexDigit, hex4, lowAfter, codePoint, escaped, readChar, readChars, readString}
+use Rattle.json_text.specs.Lexical.{isBlank, digits, int, frac, exp, readNumber, unescaped, hexValue, hexDigit, hex4, lowAfter, codePoint, escaped, readChar, readChars, readString}
 use Rattle.json.specs.Json.{literal, number, string, array, object, noItem, item, noMember, member, toItems, toMembers, items, listed, readMember, readArray, readObject, valueOf, readValue, readText, valueRead, readJson}
 
 -- opens every definition
 everything : Unit {0}
-unfolding isDigit more behind _>>=_ give fail endOfText peek satisfy countWhile many word ifNext_then_else_ lead_to_then_else_ eitherRead _or_ mapped _giving_ asWritten verbatim counted multibyteChar encodeUtf8 toItems toMembers isBlank digits int frac exp readNumber unescaped hexValue byteFor hexDigit hex4 lowAfter codePoint escaped readChar readChars readString items listed readMember readArray readObject valueOf readValue readText valueRead readJson
+unfolding isDigit more behind _>>=_ give fail endOfText peek satisfy countWhile many word ifNext_then_else_ lead_to_then_else_ eitherRead _or_ mapped _giving_ asWritten verbatim counted multibyteChar encodeUtf8 toItems toMembers isBlank digits int frac exp readNumber unescaped hexValue oneByte hexDigit hex4 lowAfter codePoint escaped readChar readChars readString items listed readMember readArray readObject valueOf readValue readText valueRead readJson
 everything = tt
 
 nested : readJson (text " [1, {\"a\": [true, null]}, -2.5e+3 ] ") ≡ some (array (item (number (text "1")) (item (object (member (text "a") (array (item literal (item literal noItem))) noMember)) (item (number (text "-2.5e+3")) noItem))))

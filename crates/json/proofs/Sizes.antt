@@ -8,10 +8,10 @@ use native.Mathlib.Omega.{arith}
 use lib.ListN.{length, drop, length-append, length-drop, length-take}
 use lib.Dec.{eqb, ltb}
 use Rattle.ascii.specs.Ascii.{Bytes, if_then_else_, isEmpty, between, among, isDigit, text}
-use Rattle.json_text.specs.Reader.{Read, got, bad, Reader, more, behind, _>>=_, _>>_, give, fail, endOfText, peek, satisfy, oneOf, byteRange, countWhile, many, word, ifNext_then_else_, lead_to_then_else_, eitherRead, _or_, mapped, _giving_, asWritten, verbatim, counted}
+use Rattle.json_text.specs.Reader.{Read, got, bad, Reader, more, behind, _>>=_, _>>_, give, fail, endOfText, peek, satisfy, oneByte, oneOf, byteRange, countWhile, many, word, ifNext_then_else_, lead_to_then_else_, eitherRead, _or_, mapped, _giving_, asWritten, verbatim, counted}
 use Rattle.json_text.specs.code.Places.{readAt}
 use Rattle.json_text.specs.Utf8.{thenTail, thenTails, multibyteChar, encodeUtf8}
-use Rattle.json_text.specs.Lexical.{isBlank, ws, digits, int, frac, exp, readNumber, unescaped, hexValue, byteFor, hexDigit, hex4, lowAfter, codePoint, escaped, readChar, readChars, readString}
+use Rattle.json_text.specs.Lexical.{isBlank, ws, digits, int, frac, exp, readNumber, unescaped, hexValue, hexDigit, hex4, lowAfter, codePoint, escaped, readChar, readChars, readString}
 use Rattle.json.specs.Json.{Json, literal, number, string, array, object, Jsons, noItem, item, Members, noMember, member, toItems, toMembers, items, listed, readMember, readArray, readObject, valueOf, readValue, readText, valueRead, readJson}
 
 -- ---- the least length of a text that reads to a tree
@@ -246,16 +246,16 @@ unescaped-keeps m = step 0x20 0x21 _ refl (step 0x23 0x5B _ refl (step 0x5D 0x7F
     step lo hi q e t = sized-lead (λ u. m) m lo hi (give tt) q e (sized-give (λ u. m) (m + 1) tt (omega arith)) t
 
 hex-size : (m : ℕ) → Sized (λ v. m + 1) m hexDigit
-unfolding hexDigit peek hexValue byteFor
+unfolding hexDigit peek hexValue oneByte
 hex-size m = record { at = go }
   where
-    if-hex : (l : Bytes) (o : Option ℕ) → 1 ≤ length l → Within (λ v. m + 1) m l (byteFor o)
-    if-hex l (some v) h = (omega arith, h)
-    if-hex l none h = tt
+    of-hex : (l : Bytes) (o : Option ℕ) → 1 ≤ length l → Within (λ v. m + 1) m l (oneByte o)
+    of-hex l (some v) h = (omega arith, h)
+    of-hex l none h = tt
 
     go : (l : Bytes) → Within (λ v. m + 1) m l (hexDigit l)
     go [] = tt
-    go (b ∷ l) = if-hex (b ∷ l) (hexValue b) (omega arith)
+    go (b ∷ l) = of-hex (b ∷ l) (hexValue b) (omega arith)
 
 hex4-size : (m : ℕ) → Sized (λ v. m + 4) m hex4
 unfolding hex4

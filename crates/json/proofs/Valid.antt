@@ -8,11 +8,11 @@ use native.Mathlib.Omega.{arith}
 use borrow.Author.Tests.{le-leb, lt-leb, leb-true, eqb-true}
 use lib.ListN.{length, drop}
 use lib.Seq.{drop-drop}
-use lib.Dec.{eqb, leb, ltb}
+use lib.Dec.{eqb, leb}
 use Rattle.ascii.specs.Ascii.{Bytes, if_then_else_, isEmpty, between, among, isDigit, text}
-use Rattle.json_text.specs.Reader.{Read, got, bad, Reader, more, behind, _>>=_, _>>_, give, fail, endOfText, peek, satisfy, oneOf, byteRange, countWhile, many, word, ifNext_then_else_, lead_to_then_else_, eitherRead, _or_, mapped, _giving_, asWritten, verbatim, counted}
+use Rattle.json_text.specs.Reader.{Read, got, bad, Reader, more, behind, _>>=_, _>>_, give, fail, endOfText, peek, satisfy, oneByte, oneOf, byteRange, countWhile, many, word, ifNext_then_else_, lead_to_then_else_, eitherRead, _or_, mapped, _giving_, asWritten, verbatim, counted}
 use Rattle.json_text.specs.Utf8.{thenTail, thenTails, multibyteChar, encodeUtf8, Due, due, leadByte, nextByte, utf8From, isUtf8}
-use Rattle.json_text.specs.Lexical.{isBlank, ws, digits, int, frac, exp, readNumber, unescaped, hexValue, byteFor, hexDigit, hex4, lowAfter, codePoint, escaped, readChar, readChars, readString}
+use Rattle.json_text.specs.Lexical.{isBlank, ws, digits, int, frac, exp, readNumber, unescaped, hexValue, hexDigit, hex4, lowAfter, codePoint, escaped, readChar, readChars, readString}
 use Rattle.json.specs.Json.{Json, number, string, array, object, toItems, toMembers, items, listed, readMember, readArray, readObject, valueOf, readValue, readText, valueRead, readJson}
 use Rattle.json_text.proofs.Steps.{inside, above}
 use Rattle.json_text.proofs.EscapeSteps.{hex-last}
@@ -316,10 +316,10 @@ whole-unescaped =
 -- ---- escapes, strings
 
 whole-hex : Whole hexDigit
-unfolding hexDigit hexValue byteFor peek
+unfolding hexDigit hexValue oneByte peek
 whole-hex = record { at = go }
   where
-    hex-one : (l : Bytes) (o : Option ℕ) → ((v : ℕ) → o ≡ some v → utf8From start l ≡ utf8From start (drop 1 l)) → Goes start start l (byteFor o)
+    hex-one : (l : Bytes) (o : Option ℕ) → ((v : ℕ) → o ≡ some v → utf8From start l ≡ utf8From start (drop 1 l)) → Goes start start l (oneByte o)
     hex-one l (some v) h = h v refl
     hex-one l none h = tt
 

@@ -1,67 +1,66 @@
 -- The ways through an escape.
-use mathlib.Core.Path.{_≡_, refl, sym, _∙_, subst}
+use mathlib.Core.Path.{_≡_, refl, sym, _∙_}
 use mathlib.Core.Bool.{Bool, true, false, _&&_}
 use mathlib.Core.List.{[], _∷_}
 use mathlib.Core.Option.{Option, none, some}
-use Prim.Native.Nat.{ℕ, _+_, _-_, _*_, _≤_, _<_}
+use Prim.Native.Nat.{ℕ, _+_, _-_, _*_, _^_, _≤_, _<_}
 use native.Mathlib.Omega.{arith}
-use mir.Syntax.{w32}
+use mir.Syntax.{w64}
 use mir.Val.{Fits}
-use lib.Dec.{T, leb, ltb, ltb→lt}
+use lib.Dec.{leb}
 use lib.ListN.{length, drop, getD, drop-of-length-le}
 use lib.Seq.{drop-cons}
 use borrow.Author.Tests.{leb-true, leb-false}
 use Rattle.ascii.specs.Ascii.{Bytes, between}
-use Rattle.json_text.specs.Reader.{got, peek, more, behind, _>>=_, satisfy, word, give, lead_to_then_else_}
-use Rattle.json_text.specs.Lexical.{hexValue, byteFor, hexDigit, hex4, lowAfter, codePoint, escaped}
-use Rattle.json_text.specs.code.Places.{Peeked, readAt, placeOf, pointOf, digitOf}
+use Rattle.json_text.specs.Reader.{got, bad, peek, more, behind, _>>=_, satisfy, oneByte, word, give, lead_to_then_else_}
+use Rattle.json_text.specs.Lexical.{hexValue, hexDigit, hex4, lowAfter, codePoint, escaped}
+use Rattle.json_text.specs.code.Places.{Peeked, readAt, placeOf, pointOf, hexAt, hexDigitOf}
 use Rattle.json_text.specs.declared.Next.{Next}
 use Rattle.json_text.specs.declared.Next.the-variants.{At, Bad}
 use Rattle.json_text.specs.declared.Point.{Point}
 use Rattle.json_text.specs.declared.Point.the-variants.{Code, Wrong}
-use Rattle.json_text.specs.declared.Digit.{Digit}
-use Rattle.json_text.specs.declared.Digit.the-variants.{Number, Other}
-use Rattle.ascii.proofs.Bytes.{each}
-use Rattle.json_text.proofs.Steps.{on, then-bad, lead-yes, lead-no, give-at, fail-at, found, missed, point-found, point-missed, inside, under, above}
+use Rattle.json_text.specs.declared.HexDigit.{HexDigit}
+use Rattle.json_text.specs.declared.HexDigit.the-variants.{Number, Other}
+use Rattle.json_text.proofs.Steps.{on, then-bad, lead-yes, lead-no, give-at, fail-at, found, missed, point-found, point-missed, inside, under, above, peek-in}
 
 -- ---- one hexadecimal digit
 
 module _ (b : ℕ) where
-  pub hex-low : b < 48 → Other ≡ digitOf (hexValue b)
-  unfolding hexValue digitOf
+  pub hex-low : b < 48 → Other ≡ hexDigitOf (hexValue b)
+  unfolding hexValue hexDigitOf
   hex-low h = rw (under 48 57 b h, under 65 70 b (omega arith), under 97 102 b (omega arith))
 
-  pub hex-decimal : 48 ≤ b → b < 58 → Number (b - 48) ≡ digitOf (hexValue b)
-  unfolding hexValue digitOf
+  pub hex-decimal : 48 ≤ b → b < 58 → Number (b - 48) ≡ hexDigitOf (hexValue b)
+  unfolding hexValue hexDigitOf
   hex-decimal h k = rw (inside 48 57 b h (omega arith))
 
-  pub hex-between : 58 ≤ b → b < 65 → Other ≡ digitOf (hexValue b)
-  unfolding hexValue digitOf
+  pub hex-between : 58 ≤ b → b < 65 → Other ≡ hexDigitOf (hexValue b)
+  unfolding hexValue hexDigitOf
   hex-between h k = rw (above 48 57 b h, under 65 70 b k, under 97 102 b (omega arith))
 
-  pub hex-upper : 65 ≤ b → b < 71 → Number (b - 65 + 10) ≡ digitOf (hexValue b)
-  unfolding hexValue digitOf
+  pub hex-upper : 65 ≤ b → b < 71 → Number (b - 65 + 10) ≡ hexDigitOf (hexValue b)
+  unfolding hexValue hexDigitOf
   hex-upper h k = rw (above 48 57 b (omega arith), inside 65 70 b h (omega arith))
 
-  pub hex-middle : 71 ≤ b → b < 97 → Other ≡ digitOf (hexValue b)
-  unfolding hexValue digitOf
+  pub hex-middle : 71 ≤ b → b < 97 → Other ≡ hexDigitOf (hexValue b)
+  unfolding hexValue hexDigitOf
   hex-middle h k = rw (above 48 57 b (omega arith), above 65 70 b h, under 97 102 b k)
 
-  pub hex-lower : 97 ≤ b → b < 103 → Number (b - 97 + 10) ≡ digitOf (hexValue b)
-  unfolding hexValue digitOf
+  pub hex-lower : 97 ≤ b → b < 103 → Number (b - 97 + 10) ≡ hexDigitOf (hexValue b)
+  unfolding hexValue hexDigitOf
   hex-lower h k = rw (above 48 57 b (omega arith), above 65 70 b (omega arith), inside 97 102 b h (omega arith))
 
-  pub hex-high : 103 ≤ b → Other ≡ digitOf (hexValue b)
-  unfolding hexValue digitOf
+  pub hex-high : 103 ≤ b → Other ≡ hexDigitOf (hexValue b)
+  unfolding hexValue hexDigitOf
   hex-high h = rw (above 48 57 b (omega arith), above 65 70 b (omega arith), above 97 102 b h)
 
-digit-found : {q : Digit} {v : ℕ} (o : Option ℕ) → q ≡ digitOf o → q ≡ Number v → o ≡ some v
-unfolding digitOf
+digit-found : {q : HexDigit} {v : ℕ} (o : Option ℕ) → q ≡ hexDigitOf o → q ≡ Number v → o ≡ some v
+unfolding hexDigitOf
 digit-found (some w) e h = cc
 digit-found none e h = let z : _≡_ {A = ℕ} 0 1 = cc in absurd (omega arith)
 
-digit-missed : {q : Digit} (o : Option ℕ) → q ≡ digitOf o → q ≡ Other → o ≡ none
-unfolding digitOf
+digit-missed : {q : HexDigit} (o : Option ℕ) → q ≡ hexDigitOf o → q ≡ Other → o ≡ none
+unfolding hexDigitOf
 digit-missed (some w) e h = let z : _≡_ {A = ℕ} 0 1 = cc in absurd (omega arith)
 digit-missed none e h = refl
 
@@ -74,82 +73,54 @@ hex-last b v e = go (leb b 102) refl
     go false k = let z : _≡_ {A = Option ℕ} none (some v) = sym (digit-missed _ refl (sym (hex-high b (leb-false b 102 k)))) ∙ e in let y : _≡_ {A = ℕ} 0 1 = cc in absurd (omega arith)
 
 module _ (s : Bytes) (i : ℕ) where
-  pub digit-past : length s ≤ i → Wrong ≡ pointOf (readAt hexDigit s i)
-  unfolding readAt hexDigit hexValue byteFor peek more pointOf
+  pub digit-past : length s ≤ i → Other ≡ hexDigitOf (hexAt s i)
+  unfolding hexAt hexValue peek hexDigitOf
   digit-past h = rw (drop-of-length-le s h)
 
-  module _ (h : i < length s) {q : Digit} (e : q ≡ digitOf (hexValue (getD s i 0))) where
-    pub digit-none : q ≡ Other → Wrong ≡ pointOf (readAt hexDigit s i)
-    unfolding readAt hexDigit byteFor peek more pointOf
-    digit-none k = rw (drop-cons s i 0 h, digit-missed _ e k)
+  module _ {q : HexDigit} where
+    pub digit-in : i < length s → q ≡ hexDigitOf (hexValue (getD s i 0)) → q ≡ hexDigitOf (hexAt s i)
+    unfolding hexAt peek
+    digit-in h e = rw (drop-cons s i 0 h) e
 
-    pub digit-some : {v : ℕ} → q ≡ Number v → Code v (i + 1) ≡ pointOf (readAt hexDigit s i)
-    unfolding readAt hexDigit byteFor peek more pointOf
-    digit-some k = rw (drop-cons s i 0 h, digit-found _ e k)
+    module _ (e : q ≡ hexDigitOf (hexAt s i)) where
+      hex-no : q ≡ Other → readAt hexDigit s i ≡ bad
+      unfolding readAt hexDigit hexAt oneByte more
+      hex-no h = rw (digit-missed _ e h)
+
+      module _ {v : ℕ} (h : q ≡ Number v) where
+        hex-yes : readAt hexDigit s i ≡ got v (i + 1)
+        unfolding readAt hexDigit hexAt oneByte more
+        hex-yes = rw (digit-found _ e h)
+
+        pub fits-digit : length s < 2 ^ 64 → Fits w64 (i + 1)
+        unfolding hexAt
+        fits-digit l = record { fits = omega (arith, peek-in s i (omega (arith, hex-last _ _ (digit-found _ e h)))) }
 
 -- ---- four of them
 
-module _ (s : Bytes) (i : ℕ) {q : Point} (e : q ≡ pointOf (readAt hexDigit s i)) where
-  pub hex4-first : q ≡ Wrong → Wrong ≡ pointOf (readAt hex4 s i)
+module _ (s : Bytes) (i : ℕ) {q : HexDigit} (e : q ≡ hexDigitOf (hexAt s i)) where
+  pub hex4-first : q ≡ Other → Wrong ≡ pointOf (readAt hex4 s i)
   unfolding hex4 pointOf
-  hex4-first h = rw (then-bad _ _ _ _ (point-missed _ e h))
+  hex4-first h = rw (then-bad _ _ _ _ (hex-no s i e h))
 
-  module _ {a j : ℕ} (h : q ≡ Code a j) {q2 : Point} (e2 : q2 ≡ pointOf (readAt hexDigit s j)) where
-    pub hex4-second : q2 ≡ Wrong → Wrong ≡ pointOf (readAt hex4 s i)
+  module _ {a : ℕ} (h : q ≡ Number a) {q2 : HexDigit} (e2 : q2 ≡ hexDigitOf (hexAt s (i + 1))) where
+    pub hex4-second : q2 ≡ Other → Wrong ≡ pointOf (readAt hex4 s i)
     unfolding hex4 pointOf
-    hex4-second k = rw (on _ _ _ _ (point-found _ e h), then-bad _ _ _ _ (point-missed _ e2 k))
+    hex4-second k = rw (on _ _ _ _ (hex-yes s i e h), then-bad _ _ _ _ (hex-no s _ e2 k))
 
-    module _ {a2 j2 : ℕ} (h2 : q2 ≡ Code a2 j2) {q3 : Point} (e3 : q3 ≡ pointOf (readAt hexDigit s j2)) where
-      pub hex4-third : q3 ≡ Wrong → Wrong ≡ pointOf (readAt hex4 s i)
+    module _ {a2 : ℕ} (h2 : q2 ≡ Number a2) {q3 : HexDigit} (e3 : q3 ≡ hexDigitOf (hexAt s (i + 1 + 1))) where
+      pub hex4-third : q3 ≡ Other → Wrong ≡ pointOf (readAt hex4 s i)
       unfolding hex4 pointOf
-      hex4-third k = rw (on _ _ _ _ (point-found _ e h), on _ _ _ _ (point-found _ e2 h2), then-bad _ _ _ _ (point-missed _ e3 k))
+      hex4-third k = rw (on _ _ _ _ (hex-yes s i e h), on _ _ _ _ (hex-yes s _ e2 h2), then-bad _ _ _ _ (hex-no s _ e3 k))
 
-      module _ {a3 j3 : ℕ} (h3 : q3 ≡ Code a3 j3) {q4 : Point} (e4 : q4 ≡ pointOf (readAt hexDigit s j3)) where
-        pub hex4-fourth : q4 ≡ Wrong → Wrong ≡ pointOf (readAt hex4 s i)
+      module _ {a3 : ℕ} (h3 : q3 ≡ Number a3) {q4 : HexDigit} (e4 : q4 ≡ hexDigitOf (hexAt s (i + 1 + 1 + 1))) where
+        pub hex4-fourth : q4 ≡ Other → Wrong ≡ pointOf (readAt hex4 s i)
         unfolding hex4 pointOf
-        hex4-fourth k = rw (on _ _ _ _ (point-found _ e h), on _ _ _ _ (point-found _ e2 h2), on _ _ _ _ (point-found _ e3 h3), then-bad _ _ _ _ (point-missed _ e4 k))
+        hex4-fourth k = rw (on _ _ _ _ (hex-yes s i e h), on _ _ _ _ (hex-yes s _ e2 h2), on _ _ _ _ (hex-yes s _ e3 h3), then-bad _ _ _ _ (hex-no s _ e4 k))
 
-        pub hex4-all : {a4 j4 : ℕ} → q4 ≡ Code a4 j4 → Code (a * 0x1000 + a2 * 0x100 + a3 * 0x10 + a4) j4 ≡ pointOf (readAt hex4 s i)
+        pub hex4-all : {a4 : ℕ} → q4 ≡ Number a4 → Code (a * 0x1000 + a2 * 0x100 + a3 * 0x10 + a4) (i + 1 + 1 + 1 + 1) ≡ pointOf (readAt hex4 s i)
         unfolding hex4 pointOf
-        hex4-all h4 = rw (on _ _ _ _ (point-found _ e h), on _ _ _ _ (point-found _ e2 h2), on _ _ _ _ (point-found _ e3 h3), on _ _ _ _ (point-found _ e4 h4), give-at)
-
--- a digit's number is at most 15: the four and their sum stay below 2 ^ 16
-isSmall : Option ℕ → Bool
-isSmall (some v) = ltb v 16
-isSmall none = true
-
-hex-small : (b v : ℕ) → hexValue b ≡ some v → v < 16
-unfolding isSmall hexValue
-hex-small b v e = ltb→lt v 16 (subst (λ o. T (isSmall o)) e (each 256 (λ b. isSmall (hexValue b)) tt b (omega (arith, hex-last b v e))))
-
-digit-small : (s : Bytes) (i : ℕ) {q : Point} {a j : ℕ} → q ≡ Code a j → q ≡ pointOf (readAt hexDigit s i) → a < 16
-unfolding readAt hexDigit byteFor more
-digit-small s i {a = a} {j = j} h e = go (hexValue (peek (drop i s))) refl (point-found _ e h)
-  where
-    go : (o : Option ℕ) → hexValue (peek (drop i s)) ≡ o → readAt hexDigit s i ≡ got a j → a < 16
-    go (some v) k l = let z : v ≡ a = cc in subst (λ n. n < 16) z (hex-small _ v k)
-    go none k l = let z : _≡_ {A = ℕ} 0 1 = cc in absurd (omega arith)
-
-module _ (s : Bytes) (i : ℕ) {q : Point} {a j : ℕ} (h : q ≡ Code a j) (e : q ≡ pointOf (readAt hexDigit s i)) where
-  pub fits-4096 : Fits w32 (a * 4096)
-  fits-4096 = record { fits = omega (arith, digit-small s i h e) }
-
-  pub fits-256 : Fits w32 (a * 256)
-  fits-256 = record { fits = omega (arith, digit-small s i h e) }
-
-  pub fits-16 : Fits w32 (a * 16)
-  fits-16 = record { fits = omega (arith, digit-small s i h e) }
-
-  module _ (i2 : ℕ) {q2 : Point} {a2 j2 : ℕ} (h2 : q2 ≡ Code a2 j2) (e2 : q2 ≡ pointOf (readAt hexDigit s i2)) where
-    pub fits-two : Fits w32 (a * 4096 + a2 * 256)
-    fits-two = record { fits = omega (arith, digit-small s i h e, digit-small s i2 h2 e2) }
-
-    module _ (i3 : ℕ) {q3 : Point} {a3 j3 : ℕ} (h3 : q3 ≡ Code a3 j3) (e3 : q3 ≡ pointOf (readAt hexDigit s i3)) where
-      pub fits-three : Fits w32 (a * 4096 + a2 * 256 + a3 * 16)
-      fits-three = record { fits = omega (arith, digit-small s i h e, digit-small s i2 h2 e2, digit-small s i3 h3 e3) }
-
-      pub fits-four : (i4 : ℕ) {q4 : Point} {a4 j4 : ℕ} → q4 ≡ Code a4 j4 → q4 ≡ pointOf (readAt hexDigit s i4) → Fits w32 (a * 4096 + a2 * 256 + a3 * 16 + a4)
-      fits-four i4 h4 e4 = record { fits = omega (arith, digit-small s i h e, digit-small s i2 h2 e2, digit-small s i3 h3 e3, digit-small s i4 h4 e4) }
+        hex4-all h4 = rw (on _ _ _ _ (hex-yes s i e h), on _ _ _ _ (hex-yes s _ e2 h2), on _ _ _ _ (hex-yes s _ e3 h3), on _ _ _ _ (hex-yes s _ e4 h4), give-at)
 
 -- ---- a code point
 

@@ -6,4 +6,4 @@ use Rattle.json_text.specs.HexDigits.{HexDigits}
 
 pub hex-digits : HexDigits
 unfolding hexValue filterBy
-hex-digits = (refl, refl, refl)
+hex-digits = (refl, refl, refl, refl)

@@ -6,7 +6,7 @@ use Rattle.json_text.proofs.Words.{word-starts, word-end, word-bad, wor
 use Rattle.json_text.proofs.Bytes.{blank-space, blank-tab, blank-line, blank-return}
 use Rattle.json_text.proofs.NumberSteps.{digit-below, digit-at-most, digits-low, digits-high, digits-some, int-zero, int-low, int-high, int-some, frac-none, frac-bad, frac-some, sign-some, sign-none, minus-some, minus-none, exp-none, exp-bad, exp-some, number-bad, number-some}
 use Rattle.json_text.proofs.Plain.{seq-bad, seq-on, range-low, range-in, range-high, wide-low, wide-c2, wide-e0, wide-e1, wide-ed, wide-ee, wide-f0, wide-f1, wide-f4, wide-high, plain-low, plain-quote, plain-backslash, plain-20, plain-23, plain-5d, plain-wide}
-use Rattle.json_text.proofs.EscapeSteps.{hex-low, hex-decimal, hex-between, hex-upper, hex-middle, hex-lower, hex-high, digit-past, digit-none, digit-some, fits-4096, fits-256, fits-16, fits-two, fits-three, fits-four, hex4-first, hex4-second, hex4-third, hex4-fourth, hex4-all, code-bad, code-low, code-high, code-lone, pair-bare, pair-bad, pair-under, pair-above, pair-is, escape-quote, escape-backslash, escape-slash, escape-b, escape-f, escape-n, escape-r, escape-t, escape-u, escape-other}
+use Rattle.json_text.proofs.EscapeSteps.{hex-low, hex-decimal, hex-between, hex-upper, hex-middle, hex-lower, hex-high, digit-past, digit-in, fits-digit, hex4-first, hex4-second, hex4-third, hex4-fourth, hex4-all, code-bad, code-low, code-high, code-lone, pair-bare, pair-bad, pair-under, pair-above, pair-is, escape-quote, escape-backslash, escape-slash, escape-b, escape-f, escape-n, escape-r, escape-t, escape-u, escape-other}
 use Rattle.json_text.proofs.Chars.{char-bad, char-at, char-two, char-plain, spells-starts, spells-end, spells-bad, spells-less, spells-more, string-bad, string-some}
 use Rattle.json_text.proofs.Holding.{put-full, put-one, part-starts, part-end, part-past, part-more, code-one, code-two, code-three, code-four, held-wrong, held-code, held-no, held-plain, decode-wrong, decode-starts, decode-end, decode-bad, decode-less, decode-more, name-wrong, name-over, name-told}
 use Rattle.json_text.proofs.PlainSteps.{ascii-low, ascii-high, ascii-quote, ascii-other, ascii-none, ascii-string, plain-none, plain-starts, plain-found, plain-more}
@@ -14,7 +14,7 @@ use Rattle.json_text.proofs.PlainSteps.{ascii-low, ascii-high, ascii-qu
 -- for the cheap needs: sums that fit, places that are there
 pub ruleset fits = (fits-next, fits-either, fits-below, needs)
 
-pub ruleset hex-fits = (fits-4096, fits-256, fits-16, fits-two, fits-three, fits-four, fits)
+pub ruleset hex-fits = (fits-digit, fits)
 
 -- where the others are too many (skip_word)
 pub ruleset next-fits = (fits-next, needs)
@@ -25,7 +25,7 @@ pub ruleset number-laws = (scan-end, scan-stop, scan-more, digit-below, digit-at
 
 pub ruleset unescaped-laws = (seq-bad, seq-on, range-low, range-in, range-high, wide-low, wide-c2, wide-e0, wide-e1, wide-ed, wide-ee, wide-f0, wide-f1, wide-f4, wide-high, plain-low, plain-quote, plain-backslash, plain-20, plain-23, plain-5d, plain-wide, fits)
 
-pub ruleset escape-laws = (hex-low, hex-decimal, hex-between, hex-upper, hex-middle, hex-lower, hex-high, digit-past, digit-none, digit-some, hex4-first, hex4-second, hex4-third, hex4-fourth, hex4-all, code-bad, code-low, code-high, code-lone, pair-bare, pair-bad, pair-under, pair-above, pair-is, escape-quote, escape-backslash, escape-slash, escape-b, escape-f, escape-n, escape-r, escape-t, escape-u, escape-other, hex-fits)
+pub ruleset escape-laws = (hex-low, hex-decimal, hex-between, hex-upper, hex-middle, hex-lower, hex-high, digit-past, digit-in, hex4-first, hex4-second, hex4-third, hex4-fourth, hex4-all, code-bad, code-low, code-high, code-lone, pair-bare, pair-bad, pair-under, pair-above, pair-is, escape-quote, escape-backslash, escape-slash, escape-b, escape-f, escape-n, escape-r, escape-t, escape-u, escape-other, hex-fits)
 
 pub ruleset ascii-laws = (scan-end, scan-stop, scan-more, ascii-low, ascii-high, ascii-quote, ascii-other, ascii-string, ascii-none, fits)
 

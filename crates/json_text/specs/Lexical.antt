@@ -6,7 +6,7 @@ use Prim.Native.Nat.{ℕ, zero, suc, _+_, _-_, _*_}
 use Prim.Native.Char.{code}
 use lib.Dec.{eqb}
 use Rattle.ascii.specs.Ascii.{Bytes, if_then_else_, between, isDigit, text}
-use Rattle.json_text.specs.Reader.{Read, got, bad, Reader, _>>=_, _>>_, give, fail, peek, satisfy, oneOf, byteRange, many, word, ifNext_then_else_, lead_to_then_else_, _or_, optional, _giving_, verbatim, counted}
+use Rattle.json_text.specs.Reader.{Reader, _>>=_, _>>_, give, fail, peek, satisfy, oneByte, oneOf, byteRange, many, word, ifNext_then_else_, lead_to_then_else_, _or_, optional, _giving_, verbatim, counted}
 use Rattle.json_text.specs.Utf8.{multibyteChar, encodeUtf8}
 
 -- ---- section 2: blanks
@@ -50,8 +50,8 @@ unescaped =
     lead 0x5D to 0x7F then give tt else
     multibyteChar
 
--- HEXDIG = DIGIT / "A" / "B" / "C" / "D" / "E" / "F", the letters in upper or lower case: the number of such a digit; none
--- for any other byte
+-- HEXDIG = DIGIT / "A" / "B" / "C" / "D" / "E" / "F" (RFC 5234, B.1), letters in either case (section 7): its number;
+-- none for any other byte
 unfoldable pub hexValue : ℕ → Option ℕ
 hexValue b =
     if between (code "0") (code "9") b then some (b - code "0") else
@@ -59,13 +59,8 @@ hexValue b =
     if between (code "a") (code "f") b then some (b - code "a" + 10) else
     none
 
--- one byte that stands for a number
-unfoldable pub byteFor : Option ℕ → Read ℕ
-byteFor (some v) = got v 1
-byteFor none = bad
-
 unfoldable pub hexDigit : Reader ℕ
-hexDigit s = byteFor (hexValue (peek s))
+hexDigit s = oneByte (hexValue (peek s))
 
 -- 4HEXDIG
 unfoldable pub hex4 : Reader ℕ

@@ -1,6 +1,7 @@
 -- Readers: what stands at the front of a text, and how many bytes it takes up.
 use mathlib.Core.List.{[], _∷_}
 use mathlib.Core.Bool.{Bool, _&&_, _||_}
+use mathlib.Core.Option.{Option, none, some}
 use Prim.Native.Nat.{ℕ, suc, _+_}
 use lib.ListN.{length, take, drop}
 use Rattle.ascii.specs.Ascii.{Bytes, if_then_else_, isEmpty, between, among}
@@ -55,6 +56,11 @@ peek (b ∷ s) = b
 -- one byte that passes the test
 unfoldable pub satisfy : (ℕ → Bool) → Reader (Unit {0})
 satisfy f s = if f (peek s) then got tt 1 else bad
+
+-- one byte, with its value; a byte that has none is wrong
+unfoldable pub oneByte : {A : Type 0} → Option A → Read A
+oneByte (some a) = got a 1
+oneByte none = bad
 
 abbrev pub oneOf : Bytes → Reader (Unit {0})
 oneOf bytes = satisfy (among bytes)

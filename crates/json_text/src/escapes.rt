@@ -1,14 +1,14 @@
 // Escapes of a string (RFC 8259, section 7), read.
-use super::Digit;
 use super::ESCAPE;
+use super::HexDigit;
 use super::Next;
 use super::Point;
 use super::QUOTATION_MARK;
 use super::byte_at;
 use super::skip_word;
 ghost use mathlib.Core.Path.{_≡_};
-ghost use Rattle.json_text.specs.Lexical.{hexValue, hexDigit, hex4, codePoint, escaped};
-ghost use Rattle.json_text.specs.code.Places.{readAt, pointOf, digitOf};
+ghost use Rattle.json_text.specs.Lexical.{hexValue, hex4, codePoint, escaped};
+ghost use Rattle.json_text.specs.code.Places.{readAt, pointOf, hexAt, hexDigitOf};
 
 const SLASH: u16 = b'/' as u16;
 
@@ -24,48 +24,52 @@ const SMALL_T: u16 = b't' as u16;
 
 const SMALL_U: u16 = b'u' as u16;
 
-// HEXDIG (RFC 8259, section 7): the number of a hexadecimal digit.
-fn hex_digit(b: u8) -> Digit
-    ensures { λ r. ⌜ r ≡ digitOf (hexValue b) ⌝ }
+// HEXDIG (RFC 5234, B.1), letters in either case (RFC 8259, section 7): its number.
+fn hex_value(b: u8) -> HexDigit
+    ensures { λ r. ⌜ r ≡ hexDigitOf (hexValue b) ⌝ }
 {
     match b {
-        b'0'..=b'9' => Digit::Number(b as u32 - b'0' as u32),
-        b'A'..=b'F' => Digit::Number(b as u32 - b'A' as u32 + 10),
-        b'a'..=b'f' => Digit::Number(b as u32 - b'a' as u32 + 10),
-        _ => Digit::Other,
+        b'0'..=b'9' => HexDigit::Number(b - b'0'),
+        b'A'..=b'F' => HexDigit::Number(b - b'A' + 10),
+        b'a'..=b'f' => HexDigit::Number(b - b'a' + 10),
+        _ => HexDigit::Other,
     }
 }
 
-// One hexadecimal digit.
-fn read_digit(s: &[u8], from: usize) -> Point
-    ensures { λ r. ⌜ r ≡ pointOf (readAt hexDigit (now (s .entry)) from) ⌝ }
+// The same of the byte at a place; past the end there is none.
+fn hex_at(s: &[u8], at: usize) -> HexDigit
+    ensures { λ r. ⌜ r ≡ hexDigitOf (hexAt (now (s .entry)) at) ⌝ }
 {
-    if from >= s.len() {
-        return Point::Wrong;
+    if at < s.len() {
+        hex_value(s[at])
+    } else {
+        HexDigit::Other
     }
-    let Digit::Number(v) = hex_digit(s[from]) else {
-        return Point::Wrong;
-    };
-    Point::Code(v, from + 1)
 }
 
 // 4HEXDIG: four hexadecimal digits.
 fn read_hex(s: &[u8], from: usize) -> Point
     ensures { λ r. ⌜ r ≡ pointOf (readAt hex4 (now (s .entry)) from) ⌝ }
 {
-    let Point::Code(a, i) = read_digit(s, from) else {
+    let HexDigit::Number(a) = hex_at(s, from) else {
         return Point::Wrong;
     };
-    let Point::Code(b, j) = read_digit(s, i) else {
+    let i = from + 1;
+    let HexDigit::Number(b) = hex_at(s, i) else {
         return Point::Wrong;
     };
-    let Point::Code(c, k) = read_digit(s, j) else {
+    let j = i + 1;
+    let HexDigit::Number(c) = hex_at(s, j) else {
         return Point::Wrong;
     };
-    let Point::Code(d, end) = read_digit(s, k) else {
+    let k = j + 1;
+    let HexDigit::Number(d) = hex_at(s, k) else {
         return Point::Wrong;
     };
-    Point::Code(a * 0x1000 + b * 0x100 + c * 0x10 + d, end)
+    Point::Code(
+        a as u32 * 0x1000 + b as u32 * 0x100 + c as u32 * 0x10 + d as u32,
+        k + 1,
+    )
 }
 
 // What follows `\u`: a code point, or a high surrogate (0xD800 to 0xDBFF), `\u` and a low one (0xDC00 to 0xDFFF); a

@@ -40,9 +40,9 @@ pub enum Point {
     Wrong,
 }
 
-// The number of a hexadecimal digit; or the byte is another one.
-pub enum Digit {
-    Number(u32),
+// The number of a hexadecimal digit; Other for a byte that is none.
+enum HexDigit {
+    Number(u8),
     Other,
 }
 

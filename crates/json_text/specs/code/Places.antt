@@ -8,12 +8,13 @@ use lib.Dec.{leb, ltb}
 use lib.ListN.{length, take, drop}
 use Rattle.ascii.specs.Ascii.{Bytes, if_then_else_, same}
 use Rattle.json_text.specs.Reader.{Read, got, bad, Reader, more, peek}
+use Rattle.json_text.specs.Lexical.{hexValue}
 use Rattle.json_text.specs.declared.Next.{Next}
 use Rattle.json_text.specs.declared.Next.the-variants.{At, Bad}
 use Rattle.json_text.specs.declared.Point.{Point}
 use Rattle.json_text.specs.declared.Point.the-variants.{Code, Wrong}
-use Rattle.json_text.specs.declared.Digit.{Digit}
-use Rattle.json_text.specs.declared.Digit.the-variants.{Number, Other}
+use Rattle.json_text.specs.declared.HexDigit.{HexDigit}
+use Rattle.json_text.specs.declared.HexDigit.the-variants.{Number, Other}
 use Rattle.json_text.specs.declared.Decoded.{Decoded}
 use Rattle.json_text.specs.declared.Progress.{Progress}
 use Rattle.json_text.specs.declared.Progress.the-variants.{On, Stuck}
@@ -30,13 +31,17 @@ unfoldable pub pointOf : Read ℕ → Point
 pointOf (got c j) = Code c j
 pointOf bad = Wrong
 
-unfoldable pub digitOf : Option ℕ → Digit
-digitOf (some v) = Number v
-digitOf none = Other
+unfoldable pub hexDigitOf : Option ℕ → HexDigit
+hexDigitOf (some v) = Number v
+hexDigitOf none = Other
 
 -- b is the byte at the place i; 256 where there is none
 pub record Peeked (s : Bytes) (i b : ℕ) : Type 0 where
   pub is : b ≡ peek (drop i s)
+
+-- the number of the hexadecimal digit at the place i
+unfoldable pub hexAt : Bytes → ℕ → Option ℕ
+hexAt s i = hexValue (peek (drop i s))
 
 -- ---- decoded strings
 

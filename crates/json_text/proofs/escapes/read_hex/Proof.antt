@@ -7,7 +7,7 @@ pub read-hex-spec : {M : Type 1} → statement M
 read-hex-spec =
     tie.close
     (tie.spec
-    {- read-digit-requires -}
+    {- hex-at-requires -}
     (λ c κs. search hex-fits)
     {- enum-known-a -}
     (λ c. search hex-fits)
@@ -15,7 +15,9 @@ read-hex-spec =
     (λ c. search hex-fits)
     {- returns -}
     (λ c. search escape-laws)
-    {- read-digit-requires-2 -}
+    {- add-i -}
+    (λ c. search hex-fits)
+    {- hex-at-requires-2 -}
     (λ c κs. search hex-fits)
     {- enum-known-b -}
     (λ c. search hex-fits)
@@ -23,7 +25,9 @@ read-hex-spec =
     (λ c. search hex-fits)
     {- returns-2 -}
     (λ c. search escape-laws)
-    {- read-digit-requires-3 -}
+    {- add-j -}
+    (λ c. search hex-fits)
+    {- hex-at-requires-3 -}
     (λ c κs. search hex-fits)
     {- enum-known-c -}
     (λ c. search hex-fits)
@@ -31,7 +35,9 @@ read-hex-spec =
     (λ c. search hex-fits)
     {- returns-3 -}
     (λ c. search escape-laws)
-    {- read-digit-requires-4 -}
+    {- add-k -}
+    (λ c. search hex-fits)
+    {- hex-at-requires-4 -}
     (λ c κs. search hex-fits)
     {- enum-known-d -}
     (λ c. search hex-fits)
@@ -39,17 +45,27 @@ read-hex-spec =
     (λ c. search hex-fits)
     {- returns-4 -}
     (λ c. search escape-laws)
+    {- cast-t14 -}
+    (λ c. search hex-fits)
     {- mul-t15 -}
     (λ c. search hex-fits)
-    {- mul-t16 -}
+    {- cast-t16 -}
     (λ c. search hex-fits)
-    {- add-t17 -}
+    {- mul-t17 -}
     (λ c. search hex-fits)
-    {- mul-t18 -}
+    {- add-t18 -}
     (λ c. search hex-fits)
-    {- add-t19 -}
+    {- cast-t19 -}
     (λ c. search hex-fits)
-    {- add-t20 -}
+    {- mul-t20 -}
+    (λ c. search hex-fits)
+    {- add-t21 -}
+    (λ c. search hex-fits)
+    {- cast-t22 -}
+    (λ c. search hex-fits)
+    {- add-t23 -}
+    (λ c. search hex-fits)
+    {- add-t24 -}
     (λ c. search hex-fits)
     {- returns-5 -}
     (λ c. search escape-laws))
