@@ -5,7 +5,7 @@ use Prim.Native.Nat.{_≤_}
 use lib.ListN.{length}
 use borrow.Author.Tests.{le-ltb}
 use Rattle.ascii.specs.Ascii.{Bytes, text, all, any, filterBy, takeWhile, dropWhile, lastOf, joinHead, splitAt, prefixed, joinWith, isDigit, isUpper, isLetter, lowerByte, lower, same, sameNoCase, beginsWith, beginsWithNoCase, valueFrom, value, number16, decimalUpTo, decimal}
-use Rattle.suffix.specs.Host.{labels, isLabelByte, isShaped, isLabel, isHost, isAddress}
+use Rattle.hosts.specs.Host.{labels, isLabelByte, isShaped, isLabel, isHost, isAddress}
 use Rattle.suffix.specs.Suffix.{isBlank as isLineBlank, content, isSkipped, readRule, readLines, readTable, nameMatches, allMatch, matches, mostLabels, prevailing, suffixSize, publicSuffix, privateLabels, labelUnder, privateLabel}
 use Rattle.origin.specs.Origin.{beginsHttps, isPort, readPort, isHostByte, readHost, readHttps, webOrigin, isKeyHashByte, isAndroid, isIos, beginsNative, isNative, isFacet, shownPort, normalWeb, normalOf, normalForm, isTailByte, isTail, httpsUrl}
 use Rattle.json_text.specs.Reader.{more, behind, _>>=_, give, fail, endOfText, peek, satisfy, oneByte, countWhile, many, word, ifNext_then_else_, lead_to_then_else_, eitherRead, _or_, mapped, _giving_, asWritten, verbatim, counted}

@@ -11,15 +11,15 @@ use borrow.Author.Needs.{needs}
 use borrow.Author.Tests.{ne-eqb, leb-true, leb-false}
 use Rattle.ascii.specs.Ascii.{Bytes, isNone, takeWhile, same, beginsWith}
 use Rattle.ascii.proofs.Scan.{scan-to}
-use Rattle.suffix.specs.Host.{labels}
+use Rattle.hosts.specs.Host.{labels}
 use Rattle.suffix.specs.Suffix.{Rule, readRule, readTable}
-use Rattle.suffix.specs.code.Place.{endsAtLabel}
+use Rattle.hosts.specs.code.Place.{endsAtLabel}
 use Rattle.suffix.specs.code.Pass.{bestOf, oneRule, readLine, inLine, inContent}
 use Rattle.suffix.specs.code.Depth.{depthsOf, Good}
 use Rattle.suffix.specs.declared.Best.the-variants.{Bad}
 use Rattle.suffix.specs.declared.Depths.{Depths}
 use Rattle.suffix.specs.declared.Depths.the-variants.{Wrong, Found}
-use Rattle.suffix.proofs.Ends.{true-false}
+use Rattle.hosts.proofs.Ends.{true-false}
 use Rattle.suffix.proofs.Lines.{wild-in, exception-in, wild-fits, host-yes, host-no, wild-no, wild-yes, wild-less, exception-yes, exception-no, rule-is-star, rule-is-wild, rule-is-exception, rule-wild-long, rule-exception-one, begins-is, rest-whole, line-empty, line-comment, line-rule}
 use Rattle.suffix.proofs.Answers.{bad-table}
 use Rattle.suffix.proofs.Passes.{Pass, pass-starts, pass-ends, pass-bad, pass-more}

@@ -11,16 +11,16 @@ use lib.Dec.{eqb, ltb}
 use borrow.Author.Needs.{needs}
 use borrow.Author.Tests.{eqb-true, le-ltb, ltb-true, ltb-false}
 use Rattle.ascii.specs.Ascii.{Bytes, if_then_else_, isNone, filterBy, lastOf, splitAt}
-use Rattle.suffix.specs.Host.{labels}
+use Rattle.hosts.specs.Host.{labels}
 use Rattle.suffix.specs.Suffix.{Rule, matches, readLines, readTable}
-use Rattle.suffix.specs.code.Place.{endsAtLabel}
+use Rattle.hosts.specs.code.Place.{endsAtLabel}
 use Rattle.suffix.specs.code.Pass.{maxLabels, sizes, bestOf, joinBest, sizeOf}
 use Rattle.suffix.specs.code.Deeper.{goesDeeper, deeperIn}
 use Rattle.suffix.specs.code.Span.{Spans, Held}
 use Rattle.suffix.specs.declared.Best.{Best}
 use Rattle.suffix.specs.declared.Best.the-variants.{Bad, Sizes}
 use Rattle.suffix.specs.declared.Deeper.{Deeper}
-use Rattle.suffix.proofs.Ends.{Alike, true-false}
+use Rattle.hosts.proofs.Ends.{Alike, true-false}
 use Rattle.suffix.proofs.Answers.{Found, found, size-exception}
 use Rattle.suffix.proofs.Passes.{join-bad}
 use Rattle.suffix.proofs.Climbs.{found-good, table-short, table-read}

@@ -1,7 +1,6 @@
 // Rules that go deeper than a private label: what the span of their lines finds for a host that ends in it.
 use suffix::Deeper;
 use suffix::Depths;
-use suffix::hosts;
 ghost use mathlib.Core.Path.{_≡_};
 ghost use mathlib.Core.List.{_++_};
 ghost use Rattle.ascii.specs.Ascii.{text};

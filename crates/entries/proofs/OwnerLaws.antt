@@ -12,8 +12,8 @@ use lib.Seq.{drop-drop, take-nil}
 use lib.Dec.{leb, ltb}
 use borrow.Author.Tests.{lt-ltb, le-ltb, leb-true}
 use Rattle.ascii.specs.Ascii.{Bytes, if_then_else_, _>>=_, isNone}
-use Rattle.suffix.specs.Host.{isHost}
-use Rattle.suffix.specs.code.Place.{endsAtLabel}
+use Rattle.hosts.specs.Host.{isHost}
+use Rattle.hosts.specs.code.Place.{endsAtLabel}
 use Rattle.suffix.specs.Suffix.{readTable, privateLabel, orEmpty}
 use Rattle.suffix.specs.code.Deeper.{isDeeper, isTheLabel}
 use Rattle.suffix.specs.code.Depth.{deeperThan}

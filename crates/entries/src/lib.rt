@@ -90,7 +90,7 @@ fn is_other_label(host: &[u8], label: &[u8], deeper: Deeper, table: &[u8]) -> bo
         }
         return true;
     }
-    if suffix::hosts::ends_at_label(host, label) {
+    if hosts::ends_at_label(host, label) {
         return false;
     }
     true

@@ -10,8 +10,8 @@ use lib.Dec.{eqb}
 use borrow.Author.Tests.{le-leb}
 use Rattle.ascii.specs.Ascii.{Bytes, if_then_else_, isEmpty, all, takeWhile, dropWhile, isDigit, isUpper, isLetter, same, sameNoCase, lowerByte, lower, beginsWith, beginsWithNoCase, text, value, valueFrom}
 use Rattle.ascii.proofs.Compare.{length-lower}
-use Rattle.suffix.specs.Host.{isHost, isLabelByte}
-use Rattle.suffix.proofs.Case.{is-byte, is-label-byte, lower-lower, map-map-eq, all-lower, is-host}
+use Rattle.hosts.specs.Host.{isHost, isLabelByte}
+use Rattle.hosts.proofs.Case.{is-byte, is-label-byte, lower-lower, map-map-eq, all-lower, is-host}
 use Rattle.origin.specs.Origin.{Authority, beginsHttps, isPort, readPort, isHostByte, readHost, readHttps, webOrigin, isNative, isFacet, shownPort, normalWeb, normalOf, normalForm}
 use Rattle.origin.specs.Matching.{effectivePort, sameOrigin, facetMatches}
 use Rattle.origin.specs.code.Parts.{isHidden}

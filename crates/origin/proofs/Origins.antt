@@ -13,7 +13,7 @@ use Rattle.ascii.proofs.Compare.{length-lower}
 pub use Rattle.ascii.proofs.Compare.{same-eq}
 use Rattle.ascii.proofs.OptionLaws.{Holds, holds}
 use Rattle.ascii.proofs.Scan.{while-all, while-rest, while-length}
-use Rattle.suffix.specs.Host.{isHost}
+use Rattle.hosts.specs.Host.{isHost}
 use Rattle.origin.specs.Origin.{Authority, beginsHttps, androidPrefix, iosPrefix, isPort, readPort, isHostByte, readHost, readHttps, webOrigin, isKeyHashByte, isAndroid, isIos, beginsNative, isNative, isFacet, shownPort}
 use Rattle.origin.specs.Matching.{effectivePort, sameOrigin}
 

@@ -11,7 +11,7 @@ use borrow.Author.Tests.{ne-eqb}
 use Rattle.ascii.specs.Ascii.{Bytes, if_then_else_, isEmpty, all, between, isDigit, isUpper, isLetter, same, lower, beginsWith, text}
 use Rattle.ascii.proofs.Bytes.{implies, each, passes, digit-small, letter-small}
 use Rattle.ascii.proofs.ListLaws.{all-append, all-weaker}
-use Rattle.suffix.specs.Host.{isLabelByte}
+use Rattle.hosts.specs.Host.{isLabelByte}
 use Rattle.origin.specs.Origin.{Authority, androidPrefix, iosPrefix, isPort, isHostByte, webOrigin, isKeyHashByte, isAndroid, isIos, isNative, isFacet, shownPort, normalWeb, normalForm}
 use Rattle.origin.specs.code.Normals.{isPlainByte}
 use Rattle.origin.proofs.Origins.{ReadOf, origin-read, port-digits, begins-split, facet-native-else}

@@ -16,8 +16,8 @@ use Rattle.ascii.specs.declared.decimals.Number.{Number}
 use Rattle.ascii.specs.declared.decimals.Number.the-variants.{Value, Malformed as NoNumber}
 use Rattle.ascii.proofs.Compare.{begins-no-case-short}
 use Rattle.ascii.proofs.Scan.{scan-rest, scan-part, scan-to}
-use Rattle.suffix.specs.Host.{isHost}
-use Rattle.suffix.proofs.Places.{rest-whole}
+use Rattle.hosts.specs.Host.{isHost}
+use Rattle.hosts.proofs.Places.{rest-whole}
 use Rattle.origin.specs.Origin.{Authority, beginsHttps, isPort, readPort, isHostByte, readHost, readHttps, webOrigin, isNative, isFacet, isTail, httpsUrl}
 use Rattle.origin.specs.Matching.{sameHost, effectivePort, sameOrigin, facetMatches}
 use Rattle.origin.specs.code.Parts.{part, authorityIn, Inside, Within, nowhere, within, Reads, portOf, withoutPort, HostEnd, sameAt, isEnd}

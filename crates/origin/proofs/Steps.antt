@@ -14,7 +14,7 @@ use Rattle.ascii.specs.code.Numbers.{numberOf}
 use Rattle.ascii.specs.declared.decimals.Number.{Number}
 use Rattle.ascii.specs.declared.decimals.Number.the-variants.{Malformed}
 use Rattle.ascii.proofs.Bytes.{agree}
-use Rattle.suffix.specs.Host.{isLabelByte}
+use Rattle.hosts.specs.Host.{isLabelByte}
 use Rattle.origin.specs.Origin.{beginsHttps, androidPrefix, iosPrefix, beginsNative, isHostByte, isKeyHashByte, isAndroid, isIos, isNative, isTailByte, isTail}
 use Rattle.origin.specs.code.Parts.{portOf, isEnd, beginsTail}
 

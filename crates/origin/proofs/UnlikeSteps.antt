@@ -13,7 +13,7 @@ use borrow.Author.Tests.{eq-eqb, ne-eqb, eqb-true}
 use Rattle.ascii.specs.Ascii.{Bytes, if_then_else_, _>>=_, isEmpty, takeWhile, dropWhile, isDigit, isUpper, isLetter, lowerByte, lower, same, sameNoCase, beginsWith, text}
 use Rattle.ascii.proofs.Compare.{same-eq}
 use Rattle.ascii.proofs.OptionLaws.{Holds, holds}
-use Rattle.suffix.specs.Host.{isHost, isLabelByte}
+use Rattle.hosts.specs.Host.{isHost, isLabelByte}
 use Rattle.origin.specs.Origin.{Authority, beginsHttps, isPort, readPort, isHostByte, readHost, readHttps, webOrigin}
 use Rattle.origin.specs.Matching.{sameOrigin, facetMatches}
 use Rattle.origin.specs.code.Unlike.{isStop, mayEnd, apart, unlike}

@@ -14,7 +14,7 @@ use borrow.Author.Tests.{le-leb, lt-leb, leb-true, leb-false}
 use Rattle.ascii.specs.Ascii.{Bytes, isEmpty, lowerByte, lower, same, text}
 use Rattle.ascii.proofs.ListLaws.{filled}
 use Rattle.ascii.proofs.Compare.{length-lower}
-use Rattle.suffix.proofs.Places.{getD-lower}
+use Rattle.hosts.proofs.Places.{getD-lower}
 use Rattle.origin.specs.Origin.{Authority, webOrigin, shownPort, normalWeb, normalOf, normalForm}
 use Rattle.origin.specs.code.Parts.{part, authorityIn, Reads, isHidden, Placed, webAt, writtenAt, behind, Wrote}
 use Rattle.origin.specs.declared.Parts.{Parts}

@@ -7,7 +7,7 @@ use Prim.Native.Char.{code}
 use lib.ListN.{length, drop}
 use lib.Dec.{eqb, leb}
 use Rattle.ascii.specs.Ascii.{Bytes, if_then_else_, _>>=_, isNone, all, isEmpty, takeWhile, dropWhile, between, isDigit, isLetter, lower, same, beginsWith, beginsWithNoCase, text, number16}
-use Rattle.suffix.specs.Host.{isHost, isLabelByte}
+use Rattle.hosts.specs.Host.{isHost, isLabelByte}
 
 -- `https://` is read in either ASCII case
 unfoldable pub beginsHttps : Bytes → Bool

@@ -129,7 +129,7 @@ fn read_host(s: &[u8]) -> Reading
 {
     let classes = ascii::classes();
     let end = host_stop(&classes, s, 8);
-    if suffix::hosts::is_host(&s[8..end]) {
+    if hosts::is_host(&s[8..end]) {
         read_port(s, end)
     } else {
         Reading::Malformed

@@ -10,13 +10,13 @@ use lib.Seq.{drop-length, take-all}
 use lib.Dec.{leb, ltb}
 use borrow.Author.Tests.{eq-eqb, ne-eqb, lt-leb, le-leb, lt-ltb, le-ltb, leb-true, ltb-true, ltb-false, not-true}
 use Rattle.ascii.specs.Ascii.{Bytes, if_then_else_, _>>=_, all, filterBy, splitAt, lastOf, joinWith, beginsWith, same, text}
-use Rattle.suffix.specs.Host.{labels, isHost, isAddress}
-use Rattle.suffix.specs.code.Place.{Stands}
+use Rattle.hosts.specs.Host.{labels, isHost, isAddress}
+use Rattle.hosts.specs.code.Place.{Stands}
 use Rattle.suffix.specs.Suffix.{Rule, normal, exceptional, content, isSkipped, readRule, readLines, readTable, matches, longer, mostLabels, prevailing, suffixSize, publicSuffix, privateLabels, labelUnder, privateLabel, orEmpty}
 use Rattle.suffix.specs.code.Pass.{maxLabels, sizes, bestOf, sizeOf, LabelAt}
 use Rattle.suffix.specs.declared.Best.{Best}
 use Rattle.suffix.specs.declared.Best.the-variants.{Bad, Sizes}
-use Rattle.suffix.proofs.Ends.{labels-some}
+use Rattle.hosts.proofs.Ends.{labels-some}
 
 -- ---- each rule has a name
 

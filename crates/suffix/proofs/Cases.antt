@@ -1,7 +1,7 @@
 -- The eleven label cases hold, by computation. Assumes nothing.
 use mathlib.Core.Path.{refl}
 use Rattle.ascii.specs.Ascii.{all, filterBy, takeWhile, lastOf, joinHead, splitAt, prefixed, joinWith, isDigit, isUpper, isLetter, lowerByte, lower, same, sameNoCase, beginsWith}
-use Rattle.suffix.specs.Host.{labels, isLabelByte, isShaped, isLabel, isHost, isAddress}
+use Rattle.hosts.specs.Host.{labels, isLabelByte, isShaped, isLabel, isHost, isAddress}
 use Rattle.suffix.specs.Suffix.{isBlank, content, isSkipped, readRule, readLines, readTable, nameMatches, allMatch, matches, mostLabels, prevailing, suffixSize, publicSuffix, privateLabels, labelUnder, privateLabel}
 use Rattle.suffix.specs.Cases.{LabelCases}
 

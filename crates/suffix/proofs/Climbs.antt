@@ -11,8 +11,8 @@ use lib.Dec.{leb, ltb}
 use borrow.Author.Tests.{lt-leb, le-leb, lt-ltb, ltb-true, ltb-false, leb-true, leb-false}
 use Rattle.ascii.specs.Ascii.{Bytes, if_then_else_, _>>=_, isNone, any, filterBy, takeWhile, lastOf, splitAt, joinWith, same, beginsWith}
 use Rattle.ascii.proofs.Scan.{scan-part}
-use Rattle.suffix.specs.Host.{labels, isHost, isAddress}
-use Rattle.suffix.specs.code.Place.{Stands, endsAtLabel}
+use Rattle.hosts.specs.Host.{labels, isHost, isAddress}
+use Rattle.hosts.specs.code.Place.{Stands, endsAtLabel}
 use Rattle.suffix.specs.Suffix.{Rule, normal, exceptional, content, isSkipped, readRule, readLines, readTable, allMatch, matches, privateLabel, orEmpty}
 use Rattle.suffix.specs.code.Pass.{maxLabels, sizes, bestOf, oneRule, readLine, inLine, inContent, sizeOf, LabelAt}
 use Rattle.suffix.specs.code.Deeper.{goesDeeper, deeperIn, isDeeper}
@@ -23,7 +23,9 @@ use Rattle.suffix.specs.declared.Lookup.{Lookup}
 use Rattle.suffix.specs.declared.Lookup.the-variants.{BadTable, Found as At}
 use Rattle.suffix.specs.declared.Depths.{Depths}
 use Rattle.suffix.specs.declared.Depths.the-variants.{Wrong, Found}
-use Rattle.suffix.proofs.Ends.{both-ways, true-false, same-eq, labels-some, wild}
+use Rattle.ascii.proofs.Compare.{same-eq}
+use Rattle.hosts.proofs.Ends.{both-ways, true-false, labels-some}
+use Rattle.suffix.proofs.Ends.{wild}
 use Rattle.suffix.proofs.Speed.{length-last, last-last, deep-match, last-names}
 use Rattle.suffix.proofs.Lines.{rule-host, rule-wild, rule-wild-long, rule-wild-bad, rule-exception, rule-exception-one, rule-exception-bad, rule-star, begins-is, rest-whole, empty-skipped, comment-skipped, other-read}
 use Rattle.suffix.proofs.Passes.{lines-on, next-line, Pass, pass-starts, pass-ends, pass-bad, pass-more}

@@ -12,8 +12,8 @@ use borrow.Author.Tests.{ne-eqb, eqb-true, leb-true, le-ltb, ltb-false}
 use Rattle.ascii.specs.Ascii.{Bytes, takeWhile, lastOf, isUpper, lowerByte, lower, same, sameNoCase, splitAt, isDigit, isLetter, beginsWith}
 use Rattle.ascii.proofs.Scan.{scan-to}
 use Rattle.ascii.proofs.Split.{join-split}
-use Rattle.suffix.specs.Host.{labels, isLabelByte, isHost}
-use Rattle.suffix.specs.code.Place.{Stands, isBoundary, endsAtLabel}
+use Rattle.hosts.specs.Host.{labels, isLabelByte, isHost}
+use Rattle.hosts.specs.code.Place.{Stands, isBoundary, endsAtLabel}
 use Rattle.suffix.specs.Suffix.{normal, isBlank, readRule, readLines}
 use Rattle.suffix.specs.code.Pass.{bestOf, joinBest, oneRule, readLine, inLine, inContent}
 use Rattle.suffix.specs.code.Depth.{lineDepth, linesDepth, Past}
@@ -22,8 +22,9 @@ use Rattle.suffix.specs.declared.Best.{Best}
 use Rattle.suffix.specs.declared.Best.the-variants.{Sizes}
 use Rattle.suffix.specs.code.Span.{linesFrom}
 use Rattle.suffix.specs.code.Idle.{Idle, Shallow, lastByte, isAlphanumeric}
-use Rattle.suffix.proofs.Ends.{true-false, same-eq, labels-some, begin-labels, begin-is, ends-whole}
-use Rattle.suffix.proofs.Shapes.{host-empty}
+use Rattle.ascii.proofs.Compare.{same-eq}
+use Rattle.hosts.proofs.Ends.{true-false, labels-some, begin-labels, begin-is, ends-whole}
+use Rattle.hosts.proofs.Shapes.{host-empty}
 use Rattle.suffix.proofs.Lines.{no-host, rule-host, host-yes, host-no, begins-is, other-read, line-empty, line-comment}
 use Rattle.suffix.proofs.Passes.{lines-of, join-zero, join-join, lines-at}
 use Rattle.suffix.proofs.Deepens.{name-not, name-ends}

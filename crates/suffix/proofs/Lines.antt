@@ -15,13 +15,15 @@ use lib.Dec.{eqb, leb, ltb}
 use borrow.Author.Tests.{eqb-true, lt-leb, le-leb, ltb-true, ltb-false}
 use Rattle.ascii.specs.Ascii.{Bytes, if_then_else_, all, filterBy, lastOf, joinHead, splitAt, isDigit, isLetter, isUpper, same, beginsWith}
 use Rattle.ascii.proofs.Split.{split-parts, split-other}
-use Rattle.suffix.specs.Host.{labels, isLabelByte, isLabel, isHost}
-use Rattle.suffix.specs.code.Place.{endsAtLabel}
+use Rattle.hosts.specs.Host.{labels, isLabelByte, isLabel, isHost}
+use Rattle.hosts.specs.code.Place.{endsAtLabel}
 use Rattle.suffix.specs.Suffix.{Rule, normal, exceptional, isSkipped, readRule, nameMatches, allMatch, matches}
 use Rattle.suffix.specs.code.Pass.{maxLabels, sizes, bestOf, oneRule, readLine}
 use Rattle.suffix.specs.declared.Best.{Best}
 use Rattle.suffix.specs.declared.Best.the-variants.{Bad, Sizes}
-use Rattle.suffix.proofs.Ends.{same-eq, labels-some, labels-few, match-labels, ends-fewer, ends-whole, wild, wild-few, wild-more}
+use Rattle.ascii.proofs.Compare.{same-eq}
+use Rattle.hosts.proofs.Ends.{labels-some, labels-few, ends-fewer, ends-whole}
+use Rattle.suffix.proofs.Ends.{match-labels, wild, wild-few, wild-more}
 
 -- ---- what one rule finds
 

@@ -12,7 +12,7 @@ use Rattle.suffix.specs.code.Span.{Spans, OwnerIs, bad-table, owner-is}
 use Rattle.suffix.specs.declared.Lookup.{Lookup}
 use Rattle.suffix.specs.declared.Lookup.the-variants.{BadTable as NoTable, Found as At}
 use Rattle.suffix.specs.declared.Owner.the-variants.{BadTable, Label}
-use Rattle.suffix.proofs.Ends.{true-false}
+use Rattle.hosts.proofs.Ends.{true-false}
 use Rattle.suffix.proofs.Lines.{rest-whole}
 use Rattle.suffix.proofs.Climbs.{Looked, looked}
 

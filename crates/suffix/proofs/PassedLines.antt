@@ -7,12 +7,12 @@ use Prim.Native.Nat.{ℕ, _+_, _≤_}
 use native.Mathlib.Omega.{arith}
 use lib.ListN.{length, drop}
 use Rattle.ascii.specs.Ascii.{Bytes, if_then_else_, _>>=_, isNone, takeWhile}
-use Rattle.suffix.specs.Host.{labels}
+use Rattle.hosts.specs.Host.{labels}
 use Rattle.suffix.specs.Suffix.{Rule, content, isSkipped, readRule, readLines}
 use Rattle.suffix.specs.code.Pass.{oneRule, readLine, inLine, inContent}
 use Rattle.suffix.specs.code.Depth.{deepest, lineDepth, Good}
 use Rattle.suffix.specs.code.Span.{linesFrom, Passed}
-use Rattle.suffix.proofs.Ends.{true-false}
+use Rattle.hosts.proofs.Ends.{true-false}
 use Rattle.suffix.proofs.Passes.{content-is, lines-in, lines-cut}
 use Rattle.suffix.proofs.Cuts.{read-both, deepest-both}
 

@@ -15,7 +15,7 @@ use borrow.Author.Tests.{eq-eqb, ne-eqb, eqb-true, le-leb, lt-leb, ltb-true, ltb
 use Rattle.ascii.specs.Ascii.{Bytes, if_then_else_, _>>=_, filterBy, takeWhile, dropWhile, splitAt}
 use Rattle.ascii.proofs.Scan.{while-stops, scan-rest, scan-part, scan-to}
 use Rattle.ascii.proofs.Split.{onFirst, split-while, on-first-end, on-first-here}
-use Rattle.suffix.specs.Host.{labels}
+use Rattle.hosts.specs.Host.{labels}
 use Rattle.suffix.specs.Suffix.{Rule, isBlank, content, isSkipped, readRule, readLines, readTable, matches}
 use Rattle.suffix.specs.code.Pass.{maxLabels, sizes, bestOf, joinBest, oneRule, readLine, inLine, inContent}
 use Rattle.suffix.specs.code.Span.{linesFrom}

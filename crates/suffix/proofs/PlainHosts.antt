@@ -10,11 +10,11 @@ use lib.Dec.{eqb, ltb}
 use borrow.Author.Tests.{eq-eqb, ne-eqb, eqb-true, eqb-false, lt-leb, le-leb, ltb-true, ltb-false}
 use Rattle.ascii.specs.Ascii.{Bytes, if_then_else_, all, takeWhile, joinHead, splitAt, isDigit, isLetter, isUpper}
 use Rattle.ascii.proofs.Split.{split-parts, split-other, onFirst, on-first-end, on-first-here}
-use Rattle.suffix.specs.Host.{labels, isLabelByte, isLabel, isHost}
+use Rattle.hosts.specs.Host.{labels, isLabelByte, isLabel, isHost}
 use Rattle.suffix.specs.code.Pass.{inLine, inContent}
 use Rattle.suffix.specs.code.Idle.{isAlphanumeric}
-use Rattle.suffix.proofs.Ends.{true-false}
-use Rattle.suffix.proofs.Shapes.{shape-only, shaped-yes}
+use Rattle.hosts.proofs.Ends.{true-false}
+use Rattle.hosts.proofs.Shapes.{shape-only, shaped-yes}
 use Rattle.suffix.proofs.Passes.{line-lf, line-other, content-lf, content-high}
 
 -- b may stand behind a; LF is the byte before the first

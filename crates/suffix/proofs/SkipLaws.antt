@@ -14,8 +14,8 @@ use borrow.Author.Tests.{lt-ltb, le-ltb}
 use Rattle.ascii.specs.Ascii.{Bytes, filterBy, takeWhile, lastOf, splitAt}
 use Rattle.ascii.specs.Class.{Classifies}
 use Rattle.ascii.proofs.Scan.{scan-from, scan-to}
-use Rattle.suffix.specs.Host.{labels}
-use Rattle.suffix.specs.code.Place.{Stands, endsAtLabel}
+use Rattle.hosts.specs.Host.{labels}
+use Rattle.hosts.specs.code.Place.{Stands, endsAtLabel}
 use Rattle.suffix.specs.Suffix.{Rule, readLines, readTable, matches}
 use Rattle.suffix.specs.code.Pass.{maxLabels, sizes, bestOf, joinBest, readLine, inLine, inContent}
 use Rattle.suffix.specs.code.Depth.{deepest, lineDepth, depthsOf, deepened}

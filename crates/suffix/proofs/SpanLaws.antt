@@ -15,7 +15,7 @@ use borrow.Author.Needs.{needs}
 use borrow.Author.Tests.{lt-leb, le-ltb, ltb-true, ltb-false, leb-false}
 use Rattle.ascii.specs.Ascii.{Bytes, _>>=_, isNone, any, takeWhile, lastOf, splitAt, same, beginsWith}
 use Rattle.ascii.proofs.Scan.{scan-part, scan-from, scan-to}
-use Rattle.suffix.specs.Host.{labels}
+use Rattle.hosts.specs.Host.{labels}
 use Rattle.suffix.specs.Suffix.{Rule, normal, exceptional, content, isSkipped, readRule, readLines, readTable}
 use Rattle.suffix.specs.code.Pass.{oneRule, readLine, inLine, inContent}
 use Rattle.suffix.specs.code.Deeper.{goesDeeper, deeperIn}
@@ -23,7 +23,9 @@ use Rattle.suffix.specs.code.Depth.{deepest, lineDepth, Good}
 use Rattle.suffix.specs.code.Idle.{KindsOf, Passes, Shallow}
 use Rattle.suffix.specs.code.Span.{linesFrom, Passed, Spans}
 use Rattle.suffix.specs.code.Search.{Seeks, Sought}
-use Rattle.suffix.proofs.Ends.{true-false, same-eq, labels-some, wild}
+use Rattle.ascii.proofs.Compare.{same-eq}
+use Rattle.hosts.proofs.Ends.{true-false, labels-some}
+use Rattle.suffix.proofs.Ends.{wild}
 use Rattle.suffix.proofs.Lines.{rest-whole, rule-host, rule-star, empty-skipped, comment-skipped, wild-in, exception-in}
 use Rattle.suffix.proofs.Passes.{content-is, line-stops, lines-in, lines-out, lines-cut}
 use Rattle.suffix.proofs.Cuts.{split-both, read-both}

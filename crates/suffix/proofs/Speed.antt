@@ -12,13 +12,16 @@ use lib.Dec.{eqb, leb}
 use borrow.Author.Tests.{eq-eqb, eqb-true, lt-ltb, lt-leb, le-leb, leb-true, leb-false}
 use Rattle.ascii.specs.Ascii.{Bytes, if_then_else_, _>>=_, between, all, any, filterBy, lastOf, splitAt, joinWith, isDigit, lower, sameNoCase}
 use Rattle.ascii.proofs.Split.{join-split}
-use Rattle.suffix.specs.Host.{labels, isLabel, isHost, isAddress}
-use Rattle.suffix.specs.code.Place.{endsAtLabel}
+use Rattle.hosts.specs.Host.{labels, isLabel, isHost, isAddress}
+use Rattle.hosts.specs.code.Place.{endsAtLabel}
 use Rattle.suffix.specs.Suffix.{Rule, normal, nameMatches, allMatch, matches, prevailing, suffixSize, publicSuffix, privateLabels, labelUnder, readTable, privateLabel}
 use Rattle.suffix.specs.code.Deeper.{goesDeeper, deeperIn, isDeeper, isTheLabel}
-use Rattle.suffix.proofs.Case.{last-map, all-match, is-address}
+use Rattle.hosts.proofs.Case.{last-map, is-address}
+use Rattle.suffix.proofs.Case.{all-match}
 use Rattle.suffix.proofs.Answers.{Found}
-use Rattle.suffix.proofs.Ends.{Alike, both-ways, true-false, same-eq, same-refl, all-equal, all-matching, labels-some, begin-labels, begin-is, names-lower, lower-names, ends-match, match-ends}
+use Rattle.ascii.proofs.Compare.{same-eq}
+use Rattle.hosts.proofs.Ends.{Alike, both-ways, true-false, same-refl, labels-some, begin-labels, begin-is, names-lower, lower-names}
+use Rattle.suffix.proofs.Ends.{all-equal, all-matching, ends-match, match-ends}
 
 -- ---- lists of labels, without regard to case
 

@@ -14,7 +14,7 @@ use borrow.Author.Needs.{needs}
 use borrow.Author.Tests.{eq-eqb, ne-eqb, eqb-true, eqb-false, lt-ltb, le-ltb, ltb-true, leb-true}
 use Rattle.ascii.specs.Ascii.{Bytes, if_then_else_, takeWhile, lowerByte}
 use Rattle.ascii.proofs.Scan.{scan-part}
-use Rattle.suffix.specs.Host.{labels}
+use Rattle.hosts.specs.Host.{labels}
 use Rattle.suffix.specs.code.Pass.{readLine, inLine}
 use Rattle.suffix.specs.code.Depth.{lineDepth}
 use Rattle.suffix.specs.code.Idle.{Idle, lastByte, isAlphanumeric, kindOf, KindsOf, stepOf, stopOf, HostLine, Stopped, at-host, at-other}

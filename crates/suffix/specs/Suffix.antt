@@ -7,7 +7,7 @@ use Prim.Native.Char.{code}
 use lib.ListN.{length, drop}
 use lib.Dec.{eqb, leb, ltb}
 use Rattle.ascii.specs.Ascii.{Bytes, if_then_else_, _>>=_, _orElse_, filterBy, isEmpty, takeWhile, lastOf, splitAt, joinWith, same, sameNoCase, beginsWith, text}
-use Rattle.suffix.specs.Host.{labels, isHost, isAddress}
+use Rattle.hosts.specs.Host.{labels, isHost, isAddress}
 
 -- ---- the table
 

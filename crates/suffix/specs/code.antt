@@ -3,5 +3,4 @@ pub mod Depth
 pub mod Span
 pub mod Idle
 pub mod Search
-pub mod Place
 pub mod Deeper

@@ -1,5 +1,4 @@
 // The ends of lines; and lines of the table that find nothing for a host, passed over.
-use crate::hosts;
 use crate::in_content;
 ghost use mathlib.Core.Path.{_≡_};
 ghost use mathlib.Core.Bool.{_&&_, _||_, not};
@@ -8,8 +7,8 @@ ghost use lib.ListN.{length, getD, drop};
 ghost use lib.Dec.{eqb, ltb};
 ghost use Rattle.ascii.specs.Ascii.{if_then_else_, takeWhile, lastOf};
 ghost use Rattle.ascii.specs.Class.{Classifies};
-ghost use Rattle.suffix.specs.Host.{labels};
-ghost use Rattle.suffix.specs.code.Place.{Stands, endsAtLabel};
+ghost use Rattle.hosts.specs.Host.{labels};
+ghost use Rattle.hosts.specs.code.Place.{Stands, endsAtLabel};
 ghost use Rattle.suffix.specs.code.Pass.{inLine, inContent};
 ghost use Rattle.suffix.specs.code.Idle.{Skipped, outside, blockEnd, placeIn, lastByte, kindOf, KindsOf, stepOf, stopOf, Stopped, Passes, Shallow};
 

@@ -1,5 +1,4 @@
 // The span of the table's lines that has every rule deeper than a label.
-use crate::hosts;
 use crate::name_deeper;
 use crate::short_content_end;
 use crate::skips;
@@ -9,7 +8,7 @@ ghost use mathlib.Core.Bool.{false};
 ghost use Prim.Native.Nat.{_-_, _<_};
 ghost use lib.ListN.{length, drop};
 ghost use Rattle.ascii.specs.Ascii.{isNone, takeWhile};
-ghost use Rattle.suffix.specs.Host.{labels};
+ghost use Rattle.hosts.specs.Host.{labels};
 ghost use Rattle.suffix.specs.Suffix.{readTable};
 ghost use Rattle.suffix.specs.code.Pass.{readLine, inContent};
 ghost use Rattle.suffix.specs.code.Deeper.{deeperIn};

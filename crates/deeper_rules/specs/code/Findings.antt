@@ -3,7 +3,7 @@ use mathlib.Core.Path.{_≡_}
 use mathlib.Core.Bool.{Bool, true, false}
 use Prim.Native.Nat.{ℕ}
 use Rattle.ascii.specs.Ascii.{Bytes, isNone}
-use Rattle.suffix.specs.Host.{labels, isHost}
+use Rattle.hosts.specs.Host.{labels, isHost}
 use Rattle.suffix.specs.Suffix.{readRule, readTable, privateLabel}
 use Rattle.suffix.specs.code.Pass.{bestOf, oneRule, readLine}
 use Rattle.suffix.specs.code.Deeper.{isTheLabel}

@@ -4,7 +4,7 @@ use mathlib.Core.Bool.{Bool, true, false, not}
 use mathlib.Core.Option.{Option, none, some}
 use Prim.Native.Nat.{ℕ}
 use Rattle.ascii.specs.Ascii.{Bytes, isNone}
-use Rattle.suffix.specs.Host.{isHost}
+use Rattle.hosts.specs.Host.{isHost}
 use Rattle.suffix.specs.Suffix.{readTable, privateLabel, orEmpty}
 use Rattle.suffix.specs.code.Depth.{deeperThan}
 use Rattle.suffix.specs.code.Span.{Held}

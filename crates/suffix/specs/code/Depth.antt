@@ -6,7 +6,7 @@ use mathlib.Core.Option.{Option, none, some}
 use Prim.Native.Nat.{ℕ, suc, max}
 use lib.ListN.{length}
 use Rattle.ascii.specs.Ascii.{Bytes, if_then_else_, isNone, filterBy, lastOf}
-use Rattle.suffix.specs.Host.{labels}
+use Rattle.hosts.specs.Host.{labels}
 use Rattle.suffix.specs.Suffix.{Rule, content, readTable, matches, privateLabel}
 use Rattle.suffix.specs.code.Pass.{maxLabels, bestOf, readLine, LabelAt}
 use Rattle.suffix.specs.code.Deeper.{goesDeeper, isDeeper}

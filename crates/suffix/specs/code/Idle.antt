@@ -6,8 +6,8 @@ use Prim.Native.Char.{code}
 use lib.ListN.{length, take, drop, getD}
 use lib.Dec.{eqb, leb, ltb}
 use Rattle.ascii.specs.Ascii.{Bytes, if_then_else_, takeWhile, lastOf, splitAt, isDigit, isLetter, lowerByte}
-use Rattle.suffix.specs.Host.{labels, isHost}
-use Rattle.suffix.specs.code.Place.{Stands}
+use Rattle.hosts.specs.Host.{labels, isHost}
+use Rattle.hosts.specs.code.Place.{Stands}
 use Rattle.suffix.specs.Suffix.{readLines}
 use Rattle.suffix.specs.code.Pass.{bestOf, joinBest, inLine, inContent}
 use Rattle.suffix.specs.code.Span.{Passed}

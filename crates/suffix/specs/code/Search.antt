@@ -4,7 +4,7 @@ use mathlib.Core.Bool.{false}
 use Prim.Native.Nat.{ℕ, _+_, _≤_}
 use lib.ListN.{length}
 use Rattle.ascii.specs.Ascii.{Bytes, isNone}
-use Rattle.suffix.specs.Host.{labels}
+use Rattle.hosts.specs.Host.{labels}
 use Rattle.suffix.specs.Suffix.{readLines}
 use Rattle.suffix.specs.code.Idle.{KindsOf}
 use Rattle.suffix.specs.code.Span.{linesFrom, Passed}

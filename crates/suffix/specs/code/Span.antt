@@ -8,7 +8,7 @@ use Prim.Native.Char.{code}
 use lib.ListN.{length, take, drop}
 use lib.Dec.{leb}
 use Rattle.ascii.specs.Ascii.{Bytes, if_then_else_, isNone, splitAt}
-use Rattle.suffix.specs.Host.{labels}
+use Rattle.hosts.specs.Host.{labels}
 use Rattle.suffix.specs.Suffix.{Rule, readLines, readTable, privateLabel}
 use Rattle.suffix.specs.code.Pass.{bestOf, LabelAt}
 use Rattle.suffix.specs.code.Deeper.{deeperIn}

@@ -1,0 +1,5 @@
+pub mod Shapes
+pub mod Places
+pub mod Case
+pub mod Ends
+pub mod Laws

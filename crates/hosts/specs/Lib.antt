@@ -1,0 +1,2 @@
+pub mod Host
+pub mod code
