@@ -2,7 +2,7 @@
 use crate::in_content;
 ghost use mathlib.Core.Path.{_≡_};
 ghost use mathlib.Core.Bool.{_&&_, _||_, not};
-ghost use Prim.Native.Nat.{suc, _+_, _≤_, _<_, max, min};
+ghost use Prim.Native.Nat.{suc, _+_, _≤_, _<_, max};
 ghost use lib.ListN.{length, getD, drop};
 ghost use lib.Dec.{eqb, ltb};
 ghost use Rattle.ascii.specs.Ascii.{if_then_else_, takeWhile, lastOf};
@@ -10,7 +10,7 @@ ghost use Rattle.ascii.specs.Class.{Classifies};
 ghost use Rattle.hosts.specs.Host.{labels};
 ghost use Rattle.hosts.specs.code.Place.{Stands, endsAtLabel};
 ghost use Rattle.suffix.specs.code.Pass.{inLine, inContent};
-ghost use Rattle.suffix.specs.code.Idle.{Skipped, outside, blockEnd, placeIn, lastByte, kindOf, KindsOf, stepOf, stopOf, Stopped, Passes, Shallow};
+ghost use Rattle.suffix.specs.code.Idle.{Skipped, lastByte, kindOf, KindsOf, stepOf, stopOf, Stopped, Passes, Shallow};
 
 // One byte on: where its line begins, and the byte's kind.
 pub enum Step {
@@ -163,93 +163,18 @@ fn plain_lines(kinds: &[u8; 256], host: &[u8], s: &[u8], from: usize) -> Stop
     Stop::Other(start)
 }
 
-// A byte that is not one from lo to hi.
-fn is_outside(lo: u8, hi: u8, b: u8) -> bool
-    ensures { λ r. ⌜ r ≡ outside lo hi b ⌝ }
-{
-    if b < lo {
-        return true;
-    }
-    hi < b
-}
-
-// The place k of a byte from lo to hi, 64 of another one.
-fn place_in(lo: u8, hi: u8, k: u8, b: u8) -> u8
-    ensures { λ r. ⌜ r ≡ placeIn lo hi k b ⌝ }
-{
-    if is_outside(lo, hi, b) { 64 } else { k }
-}
-
-fn lesser_of(a: u8, b: u8) -> u8
-    ensures { λ r. ⌜ r ≡ min a b ⌝ }
-{
-    if a < b { a } else { b }
-}
-
-// Which of the 64 bytes at a place is the first one from lo to hi, 64 where none is. Each turn does the same and their number is
-// fixed, so that the compiler does many at once.
-fn first_in_block(s: &[u8], from: usize, lo: u8, hi: u8) -> u8
-    requires { ⌜ from + 64 ≤ length (now s) ⌝ }
-    ensures { λ r. ⌜ r ≡ blockEnd lo hi (now (s .entry)) from ⌝ }
-{
-    let mut r = 64;
-    let mut k = 0;
-    while k < 64 {
-        r = lesser_of(place_in(lo, hi, k as u8, s[from + k]), r);
-        k += 1;
-    }
-    r
-}
-
-// The first byte from lo to hi, or the end, byte after byte: for one that comes soon.
-fn soon_in(s: &[u8], from: usize, lo: u8, hi: u8) -> usize
-    ensures { λ r. ⌜ r ≡ from + length (takeWhile (outside lo hi) (drop from (now (s .entry)))) ⌝ }
-{
-    let mut i = from;
-    while i < s.len() {
-        if is_outside(lo, hi, s[i]) {
-            i += 1;
-        } else {
-            return i;
-        }
-    }
-    i
-}
-
-// The same in blocks of 64 bytes while there are so many. The first byte alone before a block: many comments are empty.
-fn first_in(s: &[u8], from: usize, lo: u8, hi: u8) -> usize
-    ensures { λ r. ⌜ r ≡ from + length (takeWhile (outside lo hi) (drop from (now (s .entry)))) ⌝ }
-{
-    let mut i = from;
-    while i < s.len() {
-        if s.len() - i < 64 {
-            return soon_in(s, i, lo, hi);
-        }
-        if is_outside(lo, hi, s[i]) {
-            let n = wide(first_in_block(s, i, lo, hi));
-            if n < 64 {
-                return i + n;
-            }
-            i += 64;
-        } else {
-            return i;
-        }
-    }
-    i
-}
-
 // Where a line ends, its LF or the end; one that ends soon.
 pub(crate) fn short_end(s: &[u8], from: usize) -> usize
     ensures { λ r. ⌜ r ≡ from + length (takeWhile inLine (drop from (now (s .entry)))) ⌝ }
 {
-    soon_in(s, from, b'\n', b'\n')
+    byte_search::soon_in(s, from, b'\n', b'\n')
 }
 
 // The same for any line.
 pub fn line_end(s: &[u8], from: usize) -> usize
     ensures { λ r. ⌜ r ≡ from + length (takeWhile inLine (drop from (now (s .entry)))) ⌝ }
 {
-    first_in(s, from, b'\n', b'\n')
+    byte_search::first_in(s, from, b'\n', b'\n')
 }
 
 // Where what is read of a line ends: its first blank or LF. All of these lie between the tab and the space; another byte that does
@@ -257,10 +182,10 @@ pub fn line_end(s: &[u8], from: usize) -> usize
 pub fn content_end(s: &[u8], from: usize) -> usize
     ensures { λ r. ⌜ r ≡ from + length (takeWhile inContent (drop from (now (s .entry)))) ⌝ }
 {
-    let mut i = first_in(s, from, b'\t', b' ');
+    let mut i = byte_search::first_in(s, from, b'\t', b' ');
     while i < s.len() {
         if in_content(s[i]) {
-            i = soon_in(s, i + 1, b'\t', b' ');
+            i = byte_search::soon_in(s, i + 1, b'\t', b' ');
         } else {
             return i;
         }

@@ -4,7 +4,7 @@ use mathlib.Core.Bool.{Bool, true, _&&_, _||_}
 use Prim.Native.Nat.{ℕ, suc, _+_, _-_, _*_, _≤_, _<_}
 use Prim.Native.Char.{code}
 use lib.ListN.{length, take, drop, getD}
-use lib.Dec.{eqb, leb, ltb}
+use lib.Dec.{eqb, leb}
 use Rattle.ascii.specs.Ascii.{Bytes, if_then_else_, takeWhile, lastOf, splitAt, isDigit, isLetter, lowerByte}
 use Rattle.hosts.specs.Host.{labels, isHost}
 use Rattle.hosts.specs.code.Place.{Stands}
@@ -30,18 +30,6 @@ pub record Skipped (table : Bytes) (from to : ℕ) : Type 0 where
   pub onward : from ≤ to
   pub inside : to ≤ length table + 1
   pub is : (host : Bytes) → Idle host table from to
-
--- a byte that is not one from lo to hi
-unfoldable pub outside : ℕ → ℕ → ℕ → Bool
-outside lo hi b = ltb b lo || ltb hi b
-
--- how many of the 64 bytes at a place are before the first one from lo to hi
-unfoldable pub blockEnd : ℕ → ℕ → Bytes → ℕ → ℕ
-blockEnd lo hi s from = length (takeWhile (outside lo hi) (take 64 (drop from s)))
-
--- the place k of a byte from lo to hi, 64 of another one
-unfoldable pub placeIn : ℕ → ℕ → ℕ → ℕ → ℕ
-placeIn lo hi k b = if outside lo hi b then 64 else k
 
 unfoldable pub lastByte : Bytes → ℕ
 lastByte s = getD s (length s - 1) 0

@@ -2,8 +2,8 @@
 use Prim.Native.Nat.{_-_}
 use lib.ListN.{length}
 use Rattle.suffix.specs.code.Pass.{inContent}
-use Rattle.suffix.proofs.RangeLaws.{SameEnd}
-use Rattle.suffix.proofs.RangeLaws.{content-first, content-laws, content-turn}
+use Rattle.byte_search.proofs.RangeLaws.{SameEnd}
+use Rattle.suffix.proofs.LineEnds.{content-first, content-laws, content-turn}
 use Rattle.suffix.proofs.skips.content_end.Statement.{statement}
 use Rattle.suffix.proofs.skips.content_end.Tie as tie
 

@@ -1,11 +1,11 @@
--- `suffix::first_in` meets its contract.
+-- `byte_search::first_in` meets its contract.
 use Prim.Native.Nat.{_-_}
 use lib.ListN.{length}
-use Rattle.suffix.specs.code.Idle.{outside}
-use Rattle.suffix.proofs.RangeLaws.{SameEnd}
-use Rattle.suffix.proofs.RangeLaws.{range-laws}
-use Rattle.suffix.proofs.skips.first_in.Statement.{statement}
-use Rattle.suffix.proofs.skips.first_in.Tie as tie
+use Rattle.byte_search.specs.code.Ranges.{outside}
+use Rattle.byte_search.proofs.RangeLaws.{SameEnd}
+use Rattle.byte_search.proofs.RangeLaws.{range-laws}
+use Rattle.byte_search.proofs.first_in.Statement.{statement}
+use Rattle.byte_search.proofs.first_in.Tie as tie
 
 abbrev Inv-loop : tie.InvT-loop
 Inv-loop s from lo hi i₀ i = SameEnd (outside lo hi) s from i
@@ -33,8 +33,8 @@ first-in-spec =
     (λ c κs. search range-laws)
     {- first-in-block-requires -}
     (λ c κs. search range-laws)
-    {- wide-requires -}
-    (λ c κs. search range-laws)
+    {- cast-n -}
+    (λ c. search range-laws)
     {- add-result -}
     (λ c. search range-laws)
     {- returns-2 -}

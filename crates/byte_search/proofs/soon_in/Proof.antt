@@ -1,11 +1,11 @@
--- `suffix::soon_in` meets its contract.
+-- `byte_search::soon_in` meets its contract.
 use Prim.Native.Nat.{_-_}
 use lib.ListN.{length}
-use Rattle.suffix.specs.code.Idle.{outside}
-use Rattle.suffix.proofs.RangeLaws.{SameEnd}
-use Rattle.suffix.proofs.RangeLaws.{range-laws}
-use Rattle.suffix.proofs.skips.soon_in.Statement.{statement}
-use Rattle.suffix.proofs.skips.soon_in.Tie as tie
+use Rattle.byte_search.specs.code.Ranges.{outside}
+use Rattle.byte_search.proofs.RangeLaws.{SameEnd}
+use Rattle.byte_search.proofs.RangeLaws.{range-laws}
+use Rattle.byte_search.proofs.soon_in.Statement.{statement}
+use Rattle.byte_search.proofs.soon_in.Tie as tie
 
 abbrev Inv-loop : tie.InvT-loop
 Inv-loop s from lo hi i₀ i = SameEnd (outside lo hi) s from i

@@ -1,21 +1,17 @@
--- The first byte of a range, by blocks of 64; the ends of lines. Assumes nothing.
-use mathlib.Core.Path.{_≡_, refl, sym, ap, _∙_}
+-- The first byte of a range, by blocks of 64. Assumes nothing.
+use mathlib.Core.Path.{_≡_, refl, _∙_}
 use mathlib.Core.Bool.{Bool, true, false}
 use mathlib.Core.List.{[], _∷_}
 use Prim.Native.Nat.{ℕ, zero, suc, _+_, _-_, _≤_, _<_, min}
 use native.Mathlib.Omega.{arith}
 use lib.ListN.{length, getD, take, drop, length-drop}
 use lib.Seq.{drop-cons, drop-drop}
-use lib.Dec.{eqb, ltb}
+use lib.Dec.{ltb}
 use borrow.Author.Needs.{needs}
-use borrow.Author.Tests.{eqb-true, eqb-false, lt-ltb, le-ltb, ltb-true, ltb-false}
+use borrow.Author.Tests.{lt-ltb, le-ltb}
 use Rattle.ascii.specs.Ascii.{Bytes, if_then_else_, takeWhile}
-use Rattle.ascii.proofs.Scan.{scan-end, scan-stop, scan-more, scan-rest}
-use Rattle.suffix.specs.code.Pass.{inLine, inContent}
-use Rattle.suffix.specs.code.Idle.{outside, blockEnd, placeIn}
-use Rattle.suffix.proofs.Passes.{line-lf, line-other, content-other, content-high, while-two}
-
--- ---- the first byte of a range
+use Rattle.ascii.proofs.Scan.{scan-end, scan-stop, scan-more}
+use Rattle.byte_search.specs.code.Ranges.{outside, blockEnd, placeIn}
 
 module _ (lo hi b : ℕ) where
   pub outside-below : b < lo → true ≡ outside lo hi b
@@ -151,51 +147,6 @@ module _ (lo hi : ℕ) (s : Bytes) {from i r m : ℕ} (e : r ≡ blockEnd lo hi 
       let w = while-long (outside lo hi) 64 (drop i s) (omega (arith, e, g)) (omega (arith, length-drop i s)) in
       record { is = omega (arith, E .is, rw (drop-drop 64 i s) at w) }
 
--- ---- the end of a line, and of what is read of it
-
--- all bytes but the LF
-while-same : (f g : ℕ → Bool) → ((b : ℕ) → f b ≡ g b) → (l : Bytes) → takeWhile f l ≡ takeWhile g l
-unfolding takeWhile
-while-same f g e [] = refl
-while-same f g e (b ∷ l) = rw (e b, while-same f g e l)
-
-outside-lf : (b : ℕ) → outside 10 10 b ≡ inLine b
-outside-lf b = go (eqb b 10) refl
-  where
-    go : (u : Bool) → eqb b 10 ≡ u → outside 10 10 b ≡ inLine b
-    go true e = let z = eqb-true b 10 e in unfold outside in (rw (le-ltb b 10 (omega arith), le-ltb 10 b (omega arith)) (line-lf b z))
-    go false e = let n = eqb-false b 10 e in apart (ltb b 10) refl n
-      where
-        apart : (u : Bool) → ltb b 10 ≡ u → (b ≡ 10 → ⊥) → outside 10 10 b ≡ inLine b
-        apart true u n = unfold outside in (rw u (line-other b n))
-        apart false u n = let z = ltb-false b 10 u in unfold outside in (rw (u, lt-ltb 10 b (omega (arith, n))) (line-other b n))
-
-pub line-is-range : (s : Bytes) (from lo hi : ℕ) {r : ℕ} → r ≡ from + length (takeWhile (outside lo hi) (drop from s)) → lo ≡ 10 → hi ≡ 10 → r ≡ from + length (takeWhile inLine (drop from s))
-line-is-range s from lo hi e l h = e ∙ rw (l, h) (ap (λ (x : Bytes). from + length x) (while-same (outside 10 10) inLine outside-lf (drop from s)))
-
--- no blank, and no LF, is outside the range from the tab to the space
-outside-content : (lo hi : ℕ) → lo ≤ 9 → 32 ≤ hi → (b : ℕ) → outside lo hi b ≡ true → inContent b ≡ true
-outside-content lo hi l k b e = go (ltb b lo) refl
-  where
-    go : (u : Bool) → ltb b lo ≡ u → inContent b ≡ true
-    go true u = let h = ltb-true b lo u in sym (content-other b (λ z. omega arith) (λ z. omega arith) (λ z. omega arith) (λ z. omega arith))
-    go false u = let h = ltb-true hi b (unfold outside in (rw u at e)) in sym (content-high b (omega arith))
-
-module _ (lo hi : ℕ) (s : Bytes) {from i j : ℕ} (g : j ≡ i + length (takeWhile (outside lo hi) (drop i s))) (l : lo ≤ 9) (k : 32 ≤ hi) where
-  content-next : SameEnd inContent s from i → SameEnd inContent s from j
-  content-next E = record { is = rw (scan-rest (outside lo hi) s i j g) (omega (arith, g, while-two (outside lo hi) inContent (outside-content lo hi l k) (drop i s), E .is)) }
-
-module _ (lo hi : ℕ) (s : Bytes) {from j : ℕ} where
-  pub content-starts : j ≡ from + length (takeWhile (outside lo hi) (drop from s)) → lo ≤ 9 → 32 ≤ hi → SameEnd inContent s from j
-  content-starts g l k = content-next lo hi s g l k (end-starts inContent s from)
-
-  pub content-more : {i : ℕ} {r : Bool} → SameEnd inContent s from i → j ≡ i + 1 + length (takeWhile (outside lo hi) (drop (i + 1) s)) → lo ≤ 9 → 32 ≤ hi → i < length s → r ≡ inContent (getD s i 0) → r ≡ true
-      → SameEnd inContent s from j
-  content-more E g l k h t w = content-next lo hi s g l k (end-next E h t w)
-
-pub content-less : (lo hi : ℕ) (s : Bytes) {i j : ℕ} → j ≡ i + 1 + length (takeWhile (outside lo hi) (drop (i + 1) s)) → i < length s → length s - j < length s - i
-content-less lo hi s {i} {j} g h = omega (arith, g)
-
 pub ruleset block-laws = (block-starts, block-ends, block-more, needs)
 
 pub ruleset range-laws = (
@@ -212,12 +163,3 @@ pub ruleset range-laws = (
   end-more,
   needs,
 )
-
--- sets in which no law leads back to itself: a search that fails tries every way
-pub ruleset line-end-laws = (line-is-range, needs)
-
-pub ruleset content-laws = (content-starts, content-more, content-less, end-out, end-found, needs)
-
-pub ruleset content-first = (content-starts, needs)
-
-pub ruleset content-turn = (content-more, needs)

@@ -1,9 +1,9 @@
--- `suffix::first_in_block` meets its contract.
+-- `byte_search::first_in_block` meets its contract.
 use Prim.Native.Nat.{_-_}
-use Rattle.suffix.proofs.RangeLaws.{Block}
-use Rattle.suffix.proofs.RangeLaws.{block-laws}
-use Rattle.suffix.proofs.skips.first_in_block.Statement.{statement}
-use Rattle.suffix.proofs.skips.first_in_block.Tie as tie
+use Rattle.byte_search.proofs.RangeLaws.{Block}
+use Rattle.byte_search.proofs.RangeLaws.{block-laws}
+use Rattle.byte_search.proofs.first_in_block.Statement.{statement}
+use Rattle.byte_search.proofs.first_in_block.Tie as tie
 
 abbrev Inv-loop : tie.InvT-loop
 Inv-loop s from lo hi r₀ k₀ r k = Block lo hi s from r k

@@ -1,7 +1,0 @@
--- `suffix::is_outside` meets its contract.
-use Rattle.suffix.proofs.RangeLaws.{range-laws}
-use Rattle.suffix.proofs.skips.is_outside.Statement.{statement}
-use Rattle.suffix.proofs.skips.is_outside.Tie as tie
-
-pub is-outside-spec : {M : Type 1} → statement M
-is-outside-spec = tie.close (tie.spec {- returns -} (λ c. search range-laws) {- returns-2 -} (λ c. search range-laws))
