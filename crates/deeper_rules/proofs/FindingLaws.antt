@@ -15,15 +15,17 @@ use Rattle.hosts.specs.Host.{labels}
 use Rattle.suffix.specs.Suffix.{Rule, readRule, readTable}
 use Rattle.hosts.specs.code.Place.{endsAtLabel}
 use Rattle.suffix.specs.code.Pass.{bestOf, oneRule, readLine, inLine, inContent}
-use Rattle.suffix.specs.code.Depth.{depthsOf, Good}
+use Rattle.suffix.specs.code.Depth.{Good}
+use Rattle.label_lookup.specs.code.Answer.{depthsOf}
 use Rattle.suffix.specs.declared.Best.the-variants.{Bad}
-use Rattle.suffix.specs.declared.Depths.{Depths}
-use Rattle.suffix.specs.declared.Depths.the-variants.{Wrong, Found}
+use Rattle.label_lookup.specs.declared.Depths.{Depths}
+use Rattle.label_lookup.specs.declared.Depths.the-variants.{Wrong, Found}
 use Rattle.hosts.proofs.Ends.{true-false}
 use Rattle.suffix.proofs.Lines.{wild-in, exception-in, wild-fits, host-yes, host-no, wild-no, wild-yes, wild-less, exception-yes, exception-no, rule-is-star, rule-is-wild, rule-is-exception, rule-wild-long, rule-exception-one, begins-is, rest-whole, line-empty, line-comment, line-rule}
 use Rattle.suffix.proofs.Answers.{bad-table}
 use Rattle.suffix.proofs.Passes.{Pass, pass-starts, pass-ends, pass-bad, pass-more}
-use Rattle.suffix.proofs.Climbs.{table-short, to-best, told-none, wild-reads, exception-reads, rule-good, depth-host-host}
+use Rattle.label_lookup.proofs.LookLaws.{to-best}
+use Rattle.suffix.proofs.Climbs.{table-short, told-none, wild-reads, exception-reads, rule-good, depth-host-host}
 use Rattle.deeper_rules.specs.code.Findings.{found, best, FindsHost, FindsRule, FindsLine, FindsTable}
 use Rattle.deeper_rules.specs.declared.Finding.{Finding}
 

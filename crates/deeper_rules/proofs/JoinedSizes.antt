@@ -16,10 +16,10 @@ use Rattle.suffix.specs.Suffix.{Rule, matches, readLines, readTable}
 use Rattle.hosts.specs.code.Place.{endsAtLabel}
 use Rattle.suffix.specs.code.Pass.{maxLabels, sizes, bestOf, joinBest, sizeOf}
 use Rattle.suffix.specs.code.Deeper.{goesDeeper, deeperIn}
-use Rattle.suffix.specs.code.Span.{Spans, Held}
+use Rattle.label_lookup.specs.code.Span.{Spans, Held}
 use Rattle.suffix.specs.declared.Best.{Best}
 use Rattle.suffix.specs.declared.Best.the-variants.{Bad, Sizes}
-use Rattle.suffix.specs.declared.Deeper.{Deeper}
+use Rattle.label_lookup.specs.declared.Deeper.{Deeper}
 use Rattle.hosts.proofs.Ends.{Alike, true-false}
 use Rattle.suffix.proofs.Answers.{Found, found, size-exception}
 use Rattle.suffix.proofs.Passes.{join-bad}

@@ -1,6 +1,6 @@
 // Rules that go deeper than a private label: what the span of their lines finds for a host that ends in it.
-use suffix::Deeper;
-use suffix::Depths;
+use label_lookup::Deeper;
+use label_lookup::Depths;
 ghost use mathlib.Core.Path.{_≡_};
 ghost use mathlib.Core.List.{_++_};
 ghost use Rattle.ascii.specs.Ascii.{text};
@@ -113,7 +113,7 @@ fn lines_finding(host: &[u8], s: &[u8]) -> Finding
 fn pass_finding(host: &[u8], s: &[u8]) -> Finding
     ensures { λ r. ⌜ FindsTable (now (host .entry)) (now (s .entry)) r ⌝ }
 {
-    let found = suffix::deep_rules(host, s);
+    let found = label_lookup::deep_rules(host, s);
     let Depths::Found(e, m, _) = found else {
         return sizes(0, 0);
     };

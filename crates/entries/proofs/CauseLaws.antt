@@ -15,7 +15,7 @@ use Rattle.origin.specs.declared.Reading.the-variants.{Found, Malformed}
 use Rattle.origin.proofs.Readings.{found, is-none, found-low, found-high}
 use Rattle.origin.proofs.Origins.{origin-read, native-begins, native-not-https, no-https-no-web}
 use Rattle.entries.specs.Causes.{isOtherLabel, cause}
-use Rattle.suffix.specs.declared.Deeper.{Deeper}
+use Rattle.label_lookup.specs.declared.Deeper.{Deeper}
 use Rattle.entries.specs.code.Owner.{Owns, Differs, Judges, causeOf}
 use Rattle.entries.specs.declared.Cause.the-variants.{TooLong, OtherScheme, NotFacet, OtherLabel}
 use Rattle.entries.specs.declared.Verdict.the-variants.{Kept, Discarded}

@@ -17,10 +17,10 @@ use Rattle.hosts.specs.code.Place.{endsAtLabel}
 use Rattle.suffix.specs.Suffix.{readTable, privateLabel, orEmpty}
 use Rattle.suffix.specs.code.Deeper.{isDeeper, isTheLabel}
 use Rattle.suffix.specs.code.Depth.{deeperThan}
-use Rattle.suffix.specs.code.Span.{OwnerFound, OwnerIs, bad-table as no-table, owner-is}
-use Rattle.suffix.specs.declared.Deeper.{Deeper}
-use Rattle.suffix.specs.declared.Owner.{Owner}
-use Rattle.suffix.specs.declared.Owner.the-variants.{BadTable as Unread, Label as LabelOf}
+use Rattle.label_lookup.specs.code.Span.{OwnerFound, OwnerIs, bad-table as no-table, owner-is}
+use Rattle.label_lookup.specs.declared.Deeper.{Deeper}
+use Rattle.label_lookup.specs.declared.Owner.{Owner}
+use Rattle.label_lookup.specs.declared.Owner.the-variants.{BadTable as Unread, Label as LabelOf}
 use Rattle.suffix.proofs.Speed.{one-label}
 use Rattle.suffix.proofs.Owned.{label-some}
 use Rattle.deeper_rules.specs.code.Findings.{Tells}

@@ -1,8 +1,8 @@
 // An entry of the selected list: read at its place, held by value, and judged; and the AppID, read once.
 use json_text::Next;
 use json_text::Progress;
+use label_lookup::Deeper;
 use origin::Reading;
-use suffix::Deeper;
 ghost use Rattle.entries.specs.code.Owner.{AppIdIs, OwnedBy, Differs, Judges};
 ghost use Rattle.entries.specs.code.Reading.{Decodes, Reads};
 
@@ -51,9 +51,9 @@ pub fn find_owner(appid: &[u8], end: usize, table: &[u8]) -> AppOwner
     ensures { λ r. ⌜ OwnedBy (now (appid .entry)) end (now (table .entry)) r ⌝ }
 {
     let host = ascii::part(appid, 8, end);
-    match suffix::find_owner(host, table) {
-        suffix::Owner::BadTable => AppOwner::BadTable,
-        suffix::Owner::Label(at, deeper) => {
+    match label_lookup::find_owner(host, table) {
+        label_lookup::Owner::BadTable => AppOwner::BadTable,
+        label_lookup::Owner::Label(at, deeper) => {
             let start = 8 + at;
             AppOwner::Is(Owner { start, end, deeper })
         }

@@ -1,36 +1,27 @@
--- How deep rules go along a host, and the pass of `label_found`. Assumes nothing.
-use mathlib.Core.Path.{_≡_, refl, sym, ap, ap₂, _∙_}
+-- How deep rules go along a host. Assumes nothing.
+use mathlib.Core.Path.{_≡_, refl, sym, ap, _∙_}
 use mathlib.Core.Bool.{Bool, true, false, _&&_, _||_, and-eq-true-iff}
 use mathlib.Core.List.{List, [], _∷_}
 use mathlib.Core.Option.{Option, none, some}
 use Prim.Native.Nat.{ℕ, suc, _+_, _-_, _≤_, _<_, max}
 use native.Mathlib.Omega.{arith}
-use lib.ListN.{length, take, drop, drop-of-length-le}
-use lib.Seq.{drop-length}
+use lib.ListN.{length, take, drop}
 use lib.Dec.{leb, ltb}
 use borrow.Author.Tests.{lt-leb, le-leb, lt-ltb, ltb-true, ltb-false, leb-true, leb-false}
-use Rattle.ascii.specs.Ascii.{Bytes, if_then_else_, _>>=_, isNone, any, filterBy, takeWhile, lastOf, splitAt, joinWith, same, beginsWith}
-use Rattle.ascii.proofs.Scan.{scan-part}
-use Rattle.hosts.specs.Host.{labels, isHost, isAddress}
+use Rattle.ascii.specs.Ascii.{Bytes, if_then_else_, _>>=_, isNone, any, takeWhile, lastOf, splitAt, same, beginsWith}
+use Rattle.hosts.specs.Host.{labels, isHost}
 use Rattle.hosts.specs.code.Place.{Stands, endsAtLabel}
-use Rattle.suffix.specs.Suffix.{Rule, normal, exceptional, content, isSkipped, readRule, readLines, readTable, allMatch, matches, privateLabel, orEmpty}
-use Rattle.suffix.specs.code.Pass.{maxLabels, sizes, bestOf, oneRule, readLine, inLine, inContent, sizeOf, LabelAt}
-use Rattle.suffix.specs.code.Deeper.{goesDeeper, deeperIn, isDeeper}
-use Rattle.suffix.specs.code.Depth.{depthOf, deepest, lineDepth, linesDepth, depthsOf, Good, Past, deeperThan, LabelFound, LookupIs, unread, looked-up}
+use Rattle.suffix.specs.Suffix.{Rule, normal, exceptional, content, isSkipped, readRule, readLines, readTable, allMatch}
+use Rattle.suffix.specs.code.Pass.{bestOf, oneRule, readLine}
+use Rattle.suffix.specs.code.Deeper.{goesDeeper}
+use Rattle.suffix.specs.code.Depth.{depthOf, deepest, lineDepth, linesDepth, Good, Past}
 use Rattle.suffix.specs.declared.Best.{Best}
-use Rattle.suffix.specs.declared.Best.the-variants.{Bad, Sizes}
-use Rattle.suffix.specs.declared.Lookup.{Lookup}
-use Rattle.suffix.specs.declared.Lookup.the-variants.{BadTable, Found as At}
-use Rattle.suffix.specs.declared.Depths.{Depths}
-use Rattle.suffix.specs.declared.Depths.the-variants.{Wrong, Found}
+use Rattle.suffix.specs.declared.Best.the-variants.{Sizes}
 use Rattle.ascii.proofs.Compare.{same-eq}
-use Rattle.hosts.proofs.Ends.{both-ways, true-false, labels-some}
+use Rattle.hosts.proofs.Ends.{true-false, labels-some}
 use Rattle.suffix.proofs.Ends.{wild}
 use Rattle.suffix.proofs.Speed.{length-last, last-last, deep-match, last-names}
 use Rattle.suffix.proofs.Lines.{rule-host, rule-wild, rule-wild-long, rule-wild-bad, rule-exception, rule-exception-one, rule-exception-bad, rule-star, begins-is, rest-whole, empty-skipped, comment-skipped, other-read}
-use Rattle.suffix.proofs.Passes.{lines-on, next-line, Pass, pass-starts, pass-ends, pass-bad, pass-more}
-use Rattle.suffix.proofs.Answers.{at-malformed, at-address, at-bad, at-label, at-whole, labelled}
-use Rattle.suffix.proofs.Owned.{label-some}
 use Rattle.suffix.proofs.Deepens.{wild-goes}
 
 -- ---- deeper than k labels is deeper than fewer
@@ -265,10 +256,6 @@ pub lines-done : (hl : List Bytes) → linesDepth hl (splitAt 10 []) ≡ linesDe
 unfolding linesDepth splitAt readLine content takeWhile isSkipped lineDepth deepest
 lines-done hl = refl
 
-lines-none : (hl : List Bytes) → linesDepth hl [] ≡ 0
-unfolding linesDepth
-lines-none hl = refl
-
 -- lines that find something are good
 pub found-good : (hl : List Bytes) (o : Option (List Rule)) {e m : ℕ} → Sizes e m ≡ bestOf hl o → isNone o ≡ false
 unfolding bestOf
@@ -277,26 +264,6 @@ found-good hl (some rs) z = refl
 
 pub line-good : (hl : List Bytes) (x : Bytes) {q : Best} {e m : ℕ} → q ≡ bestOf hl (readLine x) → q ≡ Sizes e m → Good x
 line-good hl x p t = record { is = found-good hl (readLine x) (sym t ∙ p) }
-
-pub record Deeps (host table : Bytes) (e m d at : ℕ) : Type 0 where
-  pub pass : Pass host table (bestOf (labels host) (readTable table)) e m at
-  pub depth : max d (linesDepth (labels host) (splitAt 10 (drop at table))) ≡ linesDepth (labels host) (splitAt 10 table)
-
-pub deeps-long : (host table : Bytes) {n : ℕ} → n < length table → 1048576 ≤ n → Wrong ≡ depthsOf (labels host) (readTable table)
-unfolding depthsOf readTable
-deeps-long host table l m = rw (lt-leb (length table) 1048576 (omega arith))
-
-pub deeps-starts : (host table : Bytes) → length table ≤ 1048576 → Deeps host table 0 0 0 0
-deeps-starts host table l = record { pass = pass-starts host table l; depth = omega arith }
-
-from-best : (host table : Bytes) → length table ≤ 1048576 → (o : Option (List Rule)) → readTable table ≡ o → readLines (splitAt 10 table) ≡ o → (e m d : ℕ) → d ≡ linesDepth (labels host) (splitAt 10 table)
-    → Sizes e m ≡ bestOf (labels host) o → Found e m d ≡ depthsOf (labels host) o
-unfolding bestOf sizes depthsOf
-from-best host table l none t u e m d f g = let z : _≡_ {A = ℕ} 0 1 = cc in absurd (omega arith)
-from-best host table l (some rs) t u e m d f g =
-    let x : maxLabels (filterBy (λ r. r .exception) (filterBy (matches (labels host)) rs)) ≡ e = cc in
-    let y : maxLabels (filterBy (matches (labels host)) rs) ≡ m = cc in
-    rw (x, y, f, lines-rules (labels host) (splitAt 10 table) rs u)
 
 -- a good table is not too long
 pub table-short : (table : Bytes) → isNone (readTable table) ≡ false → length table ≤ 1048576
@@ -310,141 +277,6 @@ table-short table g = go (leb (length table) 1048576) refl g
 pub table-read : (table : Bytes) → length table ≤ 1048576 → readLines (splitAt 10 table) ≡ readTable table
 unfolding readTable
 table-read table l = rw (le-leb (length table) 1048576 l)
-
-pub wrong-best : (hl : List Bytes) (o : Option (List Rule)) → Bad ≡ bestOf hl o → Wrong ≡ depthsOf hl o
-unfolding bestOf sizes depthsOf
-wrong-best hl none e = refl
-wrong-best hl (some rs) e = let z : _≡_ {A = ℕ} 0 1 = cc in absurd (omega arith)
-
-module _ {host table : Bytes} {e m d at : ℕ} (D : Deeps host table e m d at) where
-  pub deeps-ends : length table ≤ 1048576 → length table ≤ at → Found e m d ≡ depthsOf (labels host) (readTable table)
-  deeps-ends s l =
-      let f : d ≡ linesDepth (labels host) (splitAt 10 table) =
-      sym (rw (drop-of-length-le table l, lines-done (labels host), lines-none (labels host)) (plain d)) ∙ D .depth in
-      from-best host table s (readTable table) refl (table-read table s) e m d f (pass-ends (D .pass) l)
-    where
-      plain : (d : ℕ) → max d 0 ≡ d
-      plain d = omega arith
-
-  module _ {to : ℕ} (g : to ≡ at + length (takeWhile inContent (drop at table))) where
-    module _ {q : Best} (t : q ≡ bestOf (labels host) (readLine (take (to - at) (drop at table)))) where
-      pub deeps-bad : q ≡ Bad → Wrong ≡ depthsOf (labels host) (readTable table)
-      deeps-bad b = wrong-best (labels host) (readTable table) (pass-bad (D .pass) g t b)
-
-      pub deeps-more : {f n k x y p z : ℕ} → q ≡ Sizes f n → k ≡ to + length (takeWhile inLine (drop to table)) → x ≡ max e f → y ≡ max m n
-          → z ≡ max d p → p ≡ lineDepth (labels host) (readLine (take (to - at) (drop at table))) → Deeps host table x y z (k + 1)
-      deeps-more {k} {p} {z} b i c v w o =
-          let r : p ≡ lineDepth (labels host) (readLine (takeWhile inContent (drop at table))) = o ∙ rw (scan-part inContent table at to g) in
-          let s = lines-on (linesDepth (labels host)) (λ l. lineDepth (labels host) (readLine l)) max (lines-more (labels host)) (lines-done (labels host)) table at k (next-line table at to k g i) in
-          record { pass = pass-more (D .pass) g t b i c v; depth = omega (arith, w, r, s, D .depth) }
-
--- ---- the answer
-
-no-label : (table host : Bytes) → LabelAt table host (length host) → privateLabel table host ≡ none
-no-label table host L = go (privateLabel table host) refl (sym (drop-length host) ∙ L .is)
-  where
-    go : (o : Option Bytes) → privateLabel table host ≡ o → [] ≡ orEmpty o → o ≡ none
-    go none p e = refl
-    go (some l) p e = absurd (omega (arith, ap length e, label-some table host l p))
-
-module _ (table host : Bytes) where
-  none-found : {e m : ℕ} → LabelAt table host (length host) → Sizes e m ≡ bestOf (labels host) (readTable table) → LabelFound table host (length host) e m false
-  unfolding deeperThan
-  none-found L b = record { place = L; found = b; deeper-is = rw (no-label table host L) }
-
-  pub lookup-bad : {q : Depths} → q ≡ depthsOf (labels host) (readTable table) → q ≡ Wrong → LookupIs table host BadTable
-  lookup-bad t w = unread (go (readTable table) (sym w ∙ t))
-    where
-      go : (o : Option (List Rule)) → Wrong ≡ depthsOf (labels host) o → o ≡ none
-      go none e = refl
-      go (some rs) e = unfold depthsOf in (let z : _≡_ {A = ℕ} 0 1 = cc in absurd (omega arith))
-
-  good-table : (e m d : ℕ) (o : Option (List Rule)) → Found e m d ≡ depthsOf (labels host) o → isNone o ≡ false
-  unfolding depthsOf
-  good-table e m d none f = let z : _≡_ {A = ℕ} 0 1 = cc in absurd (omega arith)
-  good-table e m d (some rs) f = refl
-
-  pub start-bad : {q : Lookup} → LookupIs table host q → q ≡ BadTable → LabelAt table host (length host)
-  start-bad (unread t) e = at-bad table host {q = bestOf (labels host) (readTable table)} refl (rw t none-best)
-    where
-      none-best : bestOf (labels host) none ≡ Bad
-      none-best = unfold bestOf in refl
-  start-bad (looked-up t L) e = let z : _≡_ {A = ℕ} 0 1 = cc in absurd (omega arith)
-
-  -- what a lookup tells of the host
-  pub record Looked (start e m : ℕ) (deeper : Bool) : Type 0 where
-    pub good : isNone (readTable table) ≡ false
-    pub label : LabelFound table host start e m deeper
-
-  pub looked : {q : Lookup} {start e m : ℕ} {deeper : Bool} → LookupIs table host q → q ≡ At start e m deeper → Looked start e m deeper
-  looked (unread t) f = let z : _≡_ {A = ℕ} 0 1 = cc in absurd (omega arith)
-  looked {start = start} {e = e} {m = m} {deeper = deeper} (looked-up {start = i} {e = j} {m = k} {deeper = l} t L) f =
-      let x : i ≡ start = cc in
-      let y : j ≡ e = cc in
-      let z : k ≡ m = cc in
-      let w : l ≡ deeper = cc in
-      record { good = t; label = rw (← x, ← y, ← z, ← w) L }
-
-  pub start-found : {q : Lookup} {start e m : ℕ} {deeper : Bool} → LookupIs table host q → q ≡ At start e m deeper → LabelAt table host start
-  start-found Q f = looked Q f .label .place
-
-  pub to-best : (e m d : ℕ) (o : Option (List Rule)) → Found e m d ≡ depthsOf (labels host) o → Sizes e m ≡ bestOf (labels host) o
-  unfolding bestOf sizes depthsOf
-  to-best e m d none f = let z : _≡_ {A = ℕ} 0 1 = cc in absurd (omega arith)
-  to-best e m d (some rs) f =
-      let x : e ≡ maxLabels (filterBy (λ r. r .exception) (filterBy (matches (labels host)) rs)) = cc in
-      let y : m ≡ maxLabels (filterBy (matches (labels host)) rs) = cc in
-      ap₂ Sizes x y
-
-  to-depth : (e m d k : ℕ) (o : Option (List Rule)) → Found e m d ≡ depthsOf (labels host) o → 1 ≤ k → k ≤ length (labels host) → leb k d ≡ deeperIn (lastOf k (labels host)) o
-  unfolding depthsOf deeperIn
-  to-depth e m d k none f h l = let z : _≡_ {A = ℕ} 0 1 = cc in absurd (omega arith)
-  to-depth e m d k (some rs) f h l = let x : d ≡ deepest (labels host) rs = cc in rw x (sym (any-depth k (labels host) rs h l))
-
-  leb-ltb : (n d : ℕ) → ltb n d ≡ leb (n + 1) d
-  leb-ltb n d = both-ways (ltb n d) (leb (n + 1) d) (λ t. let x = ltb-true n d t in le-leb (n + 1) d (omega arith)) (λ t. let x = leb-true (n + 1) d t in lt-ltb n d (omega arith))
-
-  module _ {q : Depths} {e m d : ℕ} (t : q ≡ depthsOf (labels host) (readTable table)) (t′ : q ≡ Found e m d) where
-    good-is : isNone (readTable table) ≡ false
-    good-is = good-table e m d (readTable table) (sym t′ ∙ t)
-
-    best : Sizes e m ≡ bestOf (labels host) (readTable table)
-    best = to-best e m d (readTable table) (sym t′ ∙ t)
-
-    pub lookup-malformed : {a : Bool} → a ≡ isHost host → a ≡ false → LookupIs table host (At (length host) e m false)
-    lookup-malformed h h′ = looked-up good-is (none-found (at-malformed table host h h′) best)
-
-    pub lookup-address : {b : Bool} → b ≡ isAddress (labels host) → b ≡ true → LookupIs table host (At (length host) e m false)
-    lookup-address i i′ = looked-up good-is (none-found (at-address table host i i′) best)
-
-    module _ {a b : Bool} {n k : ℕ} (h : a ≡ isHost host) (h′ : a ≡ true) (i : b ≡ isAddress (labels host)) (i′ : b ≡ false) (s : n ≡ sizeOf e m) (c : k ≡ length (labels host)) where
-      pub lookup-whole : k ≤ n → LookupIs table host (At (length host) e m false)
-      lookup-whole l = looked-up good-is (none-found (at-whole table host h h′ i i′ best refl s c l) best)
-
-      label-lookup : {r : ℕ} → n < k → Stands (lastOf (n + 1) (labels host)) host r → LookupIs table host (At r e m (ltb n d))
-      label-lookup l S = looked-up good-is (record {
-        place = at-label table host h h′ i i′ best refl s c l S;
-        found = best;
-        deeper-is = leb-ltb n d ∙ to-depth e m d (n + 1) (readTable table) (sym t′ ∙ t) (omega arith) (omega arith)
-            ∙ sym (rw (labelled table host h h′ i i′ best refl s c l) deep);
-      })
-        where
-          deep : deeperThan table (some (joinWith 46 (lastOf (n + 1) (labels host)))) ≡ deeperIn (lastOf (n + 1) (labels host)) (readTable table)
-          deep = unfold deeperThan isDeeper in (ap (λ (ls : List Bytes). deeperIn ls (readTable table)) (last-names host (n + 1) (omega arith)))
-
-  -- facts without the names of the answers that tell them, so that only the first premise of `lookup-label` holds unknowns
-  pub found-told : {q : Depths} {e m d : ℕ} → q ≡ Found e m d → q ≡ depthsOf (labels host) (readTable table) → Found e m d ≡ depthsOf (labels host) (readTable table)
-  found-told t′ t = sym t′ ∙ t
-
-  pub name-told : {b : Bool} → b ≡ isAddress (labels host) → b ≡ false → isAddress (labels host) ≡ false
-  name-told i i′ = sym i ∙ i′
-
-  pub fewer-told : {n k : ℕ} → k ≡ length (labels host) → n < k → n < length (labels host)
-  fewer-told c l = omega arith
-
-  pub lookup-label : {e m d n r : ℕ} → n ≡ sizeOf e m → Found e m d ≡ depthsOf (labels host) (readTable table)
-      → isHost host ≡ true → isAddress (labels host) ≡ false → n < length (labels host) → Stands (lastOf (n + 1) (labels host)) host r → LookupIs table host (At r e m (ltb n d))
-  lookup-label s t h i l S = label-lookup t refl refl h refl i s refl l S
 
 pub wild-goes-is : (v w : Bytes) {q : Bool} → isHost w ≡ true → q ≡ endsAtLabel v w → q ≡ goesDeeper (labels v) (normal ((42 ∷ []) ∷ labels w))
 wild-goes-is v w h e = e ∙ wild-goes v w h

@@ -20,7 +20,7 @@ use Rattle.suffix.specs.code.Depth.{lineDepth, linesDepth, Past}
 use Rattle.suffix.specs.code.Deeper.{goesDeeper}
 use Rattle.suffix.specs.declared.Best.{Best}
 use Rattle.suffix.specs.declared.Best.the-variants.{Sizes}
-use Rattle.suffix.specs.code.Span.{linesFrom}
+use Rattle.suffix.specs.code.Passed.{linesFrom}
 use Rattle.suffix.specs.code.Idle.{Idle, Shallow, lastByte, isAlphanumeric}
 use Rattle.ascii.proofs.Compare.{same-eq}
 use Rattle.hosts.proofs.Ends.{true-false, labels-some, begin-labels, begin-is, ends-whole}

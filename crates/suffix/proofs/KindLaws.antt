@@ -12,7 +12,7 @@ use borrow.Author.Tests.{eq-eqb, ne-eqb, eqb-true, eqb-false, lt-leb, le-leb, lt
 use Rattle.ascii.specs.Ascii.{Bytes, if_then_else_, isDigit, isLetter, isUpper, lowerByte}
 use Rattle.ascii.specs.Class.{classOf, Classifies}
 use Rattle.ascii.proofs.Bytes.{agree}
-use Rattle.suffix.specs.code.Idle.{lastByte, isAlphanumeric, kindOf, KindsOf, stepOf, stopOf}
+use Rattle.suffix.specs.code.Idle.{lastByte, isAlphanumeric, kindOf, KindsOf, kindIn, KindBy, KindsBy, stepOf, stopOf}
 use Rattle.suffix.specs.declared.skips.Step.the-variants.{On, Off}
 use Rattle.suffix.specs.declared.skips.Stop.the-variants.{Host, Other}
 
@@ -31,19 +31,24 @@ plain-class : (table : Bytes) (b : ℕ) → Classifies table → b < 256 → ltb
 unfolding classOf isLetter isUpper isDigit isAlphanumeric
 plain-class table b C h = rw (C .is b h) (agree (λ k. ltb (classOf k) 2) isAlphanumeric tt b h)
 
-module _ (table : Bytes) (last b : ℕ) (C : Classifies table) (h : b < 256) where
-  module _ (l : getD table b 0 < 2) {r : Bool} (t : r ≡ eqb (lowerByte b) (lowerByte last)) where
-    pub kind-alike : r ≡ true → 1 ≡ kindOf last b
-    unfolding kindOf
-    kind-alike w = rw (← plain-class table b C h, lt-ltb (getD table b 0) 2 l, ← t, w)
+module _ (table : Bytes) (last b : ℕ) where
+  -- what is so by every table
+  pub kind-anyhow : {k : ℕ} → k ≡ kindOf last b → KindBy table last b k
+  kind-anyhow e = record { is = λ C. e }
 
-    pub kind-plain : r ≡ false → 0 ≡ kindOf last b
-    unfolding kindOf
-    kind-plain w = rw (← plain-class table b C h, lt-ltb (getD table b 0) 2 l, ← t, w)
+  module _ (h : b < 256) where
+    module _ (l : getD table b 0 < 2) {r : Bool} (t : r ≡ eqb (lowerByte b) (lowerByte last)) where
+      pub kind-alike : r ≡ true → KindBy table last b 1
+      unfolding kindOf
+      kind-alike w = record { is = λ C. rw (← plain-class table b C h, lt-ltb (getD table b 0) 2 l, ← t, w) }
 
-  pub kind-rest : 2 ≤ getD table b 0 → (b ≡ 45 → ⊥) → (b ≡ 46 → ⊥) → (b ≡ 10 → ⊥) → 9 ≡ kindOf last b
-  unfolding kindOf
-  kind-rest l m n o = rw (← plain-class table b C h, le-ltb (getD table b 0) 2 l, ne-eqb b 45 m, ne-eqb b 46 n, ne-eqb b 10 o)
+      pub kind-plain : r ≡ false → KindBy table last b 0
+      unfolding kindOf
+      kind-plain w = record { is = λ C. rw (← plain-class table b C h, lt-ltb (getD table b 0) 2 l, ← t, w) }
+
+    pub kind-rest : 2 ≤ getD table b 0 → (b ≡ 45 → ⊥) → (b ≡ 46 → ⊥) → (b ≡ 10 → ⊥) → KindBy table last b 9
+    unfolding kindOf
+    kind-rest l m n o = record { is = λ C. rw (← plain-class table b C h, le-ltb (getD table b 0) 2 l, ne-eqb b 45 m, ne-eqb b 46 n, ne-eqb b 10 o) }
 
 kind-at : (last b c : ℕ) → b ≡ c → isAlphanumeric c ≡ false → kindOf last c ≡ kindOf last b
 kind-at last b c e p = rw e
@@ -80,40 +85,49 @@ kind-high last b h =
 
 -- ---- the table
 
-pub record Filled (last : ℕ) (kinds : Bytes) (i : ℕ) : Type 0 where
+pub record Filled (classes : Bytes) (last : ℕ) (kinds : Bytes) (i : ℕ) : Type 0 where
   pub long : length kinds ≡ 256
   pub most : i ≤ 256
-  pub is : (b : ℕ) → b < i → getD kinds b 9 ≡ kindOf last b
+  pub is : Classifies classes → (b : ℕ) → b < i → getD kinds b 9 ≡ kindOf last b
 
-pub fill-starts : (last : ℕ) (kinds : Bytes) → length kinds ≡ 256 → Filled last kinds 0
-fill-starts last kinds h = record { long = h; most = omega arith; is = λ b l. absurd (omega arith) }
+pub fill-starts : (classes : Bytes) (last : ℕ) (kinds : Bytes) → length kinds ≡ 256 → Filled classes last kinds 0
+fill-starts classes last kinds h = record { long = h; most = omega arith; is = λ C b l. absurd (omega arith) }
 
-module _ {last i : ℕ} {kinds : Bytes} (F : Filled last kinds i) where
-  pub fill-more : {v : ℕ} → i < 256 → v ≡ kindOf last i → Filled last (set kinds i v) (i + 1)
-  fill-more {v} h e = record { long = length-set kinds i v ∙ F .long; most = omega arith; is = λ b l. go b l (eqb b i) refl }
+module _ {classes : Bytes} {last i : ℕ} {kinds : Bytes} (F : Filled classes last kinds i) where
+  pub fill-more : {v : ℕ} → i < 256 → KindBy classes last i v → Filled classes last (set kinds i v) (i + 1)
+  fill-more {v} h K = record { long = length-set kinds i v ∙ F .long; most = omega arith; is = λ C b l. go C b l (eqb b i) refl }
     where
-      go : (b : ℕ) → b < i + 1 → (u : Bool) → eqb b i ≡ u → getD (set kinds i v) b 9 ≡ kindOf last b
-      go b l true f = let z : b ≡ i = eqb-true b i f in rw z (getD-set-same kinds i v 9 (omega (arith, F .long)) ∙ e)
-      go b l false f =
+      go : Classifies classes → (b : ℕ) → b < i + 1 → (u : Bool) → eqb b i ≡ u → getD (set kinds i v) b 9 ≡ kindOf last b
+      go C b l true f = let z : b ≡ i = eqb-true b i f in rw z (getD-set-same kinds i v 9 (omega (arith, F .long)) ∙ K .is C)
+      go C b l false f =
           let n : b ≡ i → ⊥ = eqb-false b i f in
-          getD-set-other kinds i b v 9 n ∙ F .is b (omega arith)
+          getD-set-other kinds i b v 9 n ∙ F .is C b (omega arith)
 
-  pub fill-ends : (host : Bytes) → 256 ≤ i → last ≡ lastByte host → KindsOf host kinds
-  fill-ends host l e = record { long = F .long; is = λ b. go b (ltb b 256) refl }
+  pub fill-ends : (host : Bytes) → 256 ≤ i → last ≡ lastByte host → KindsBy classes host kinds
+  fill-ends host l e = record { is = λ C. record { long = F .long; is = λ b. go C b (ltb b 256) refl } }
     where
-      go : (b : ℕ) (u : Bool) → ltb b 256 ≡ u → getD kinds b 9 ≡ kindOf (lastByte host) b
-      go b true f = let h : b < 256 = ltb-true b 256 f in F .is b (omega arith) ∙ rw e
-      go b false f =
+      go : Classifies classes → (b : ℕ) (u : Bool) → ltb b 256 ≡ u → getD kinds b 9 ≡ kindOf (lastByte host) b
+      go C b true f = let h : b < 256 = ltb-true b 256 f in F .is C b (omega arith) ∙ rw e
+      go C b false f =
           let h : 256 ≤ b = ltb-false b 256 f in
           List·getD-eq-default kinds 9 (omega (arith, F .long)) ∙ kind-high (lastByte host) b h
 
-pub kind-read : (kinds : Bytes) (b : ℕ) → b < 256 → length kinds ≡ 256 → getD kinds b 0 ≡ getD kinds b 9
-kind-read kinds b h l = go kinds b (omega arith)
+pub kind-read : (kinds : Bytes) (b : ℕ) → b < 256 → getD kinds b 0 ≡ kindIn kinds b
+unfolding kindIn
+kind-read kinds b h = rw (lt-ltb b 256 h)
+
+-- the host's own table gives each byte its kind
+pub kind-in : {host kinds : Bytes} → KindsOf host kinds → (b : ℕ) → kindIn kinds b ≡ kindOf (lastByte host) b
+kind-in {host} {kinds} K b = go (ltb b 256) refl
   where
-    go : (k : Bytes) (i : ℕ) → i < length k → getD k i 0 ≡ getD k i 9
-    go [] i m = absurd (omega arith)
-    go (x ∷ k) zero m = refl
-    go (x ∷ k) (suc i) m = go k i (omega arith)
+    other : (k : Bytes) (i : ℕ) → i < length k → getD k i 0 ≡ getD k i 9
+    other [] i m = absurd (omega arith)
+    other (x ∷ k) zero m = refl
+    other (x ∷ k) (suc i) m = other k i (omega arith)
+
+    go : (u : Bool) → ltb b 256 ≡ u → kindIn kinds b ≡ kindOf (lastByte host) b
+    go true e = let h : b < 256 = ltb-true b 256 e in unfold kindIn in (rw e (other kinds b (omega (arith, K .long)) ∙ K .is b))
+    go false e = unfold kindIn in (rw e (kind-high (lastByte host) b (ltb-false b 256 e)))
 
 -- ---- one byte on
 
@@ -148,6 +162,7 @@ module _ (g p start at : ℕ) {k : ℕ} (e : k ≡ g) where
 pub ruleset kind-laws = (
   last-none,
   last-some,
+  kind-anyhow,
   kind-alike,
   kind-plain,
   kind-rest,

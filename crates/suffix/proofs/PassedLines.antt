@@ -11,7 +11,7 @@ use Rattle.hosts.specs.Host.{labels}
 use Rattle.suffix.specs.Suffix.{Rule, content, isSkipped, readRule, readLines}
 use Rattle.suffix.specs.code.Pass.{oneRule, readLine, inLine, inContent}
 use Rattle.suffix.specs.code.Depth.{deepest, lineDepth, Good}
-use Rattle.suffix.specs.code.Span.{linesFrom, Passed}
+use Rattle.suffix.specs.code.Passed.{linesFrom, Passed}
 use Rattle.hosts.proofs.Ends.{true-false}
 use Rattle.suffix.proofs.Passes.{content-is, lines-in, lines-cut}
 use Rattle.suffix.proofs.Cuts.{read-both, deepest-both}

@@ -18,7 +18,7 @@ use Rattle.ascii.proofs.Split.{onFirst, split-while, on-first-end, on-first-her
 use Rattle.hosts.specs.Host.{labels}
 use Rattle.suffix.specs.Suffix.{Rule, isBlank, content, isSkipped, readRule, readLines, readTable, matches}
 use Rattle.suffix.specs.code.Pass.{maxLabels, sizes, bestOf, joinBest, oneRule, readLine, inLine, inContent}
-use Rattle.suffix.specs.code.Span.{linesFrom}
+use Rattle.suffix.specs.code.Passed.{linesFrom}
 use Rattle.suffix.specs.declared.Best.{Best}
 use Rattle.suffix.specs.declared.Best.the-variants.{Bad, Sizes}
 

@@ -17,13 +17,13 @@ use Rattle.ascii.proofs.Scan.{scan-part}
 use Rattle.hosts.specs.Host.{labels}
 use Rattle.suffix.specs.code.Pass.{readLine, inLine}
 use Rattle.suffix.specs.code.Depth.{lineDepth}
-use Rattle.suffix.specs.code.Idle.{Idle, lastByte, isAlphanumeric, kindOf, KindsOf, stepOf, stopOf, HostLine, Stopped, at-host, at-other}
+use Rattle.suffix.specs.code.Idle.{Idle, lastByte, isAlphanumeric, kindOf, KindsOf, kindIn, stepOf, stopOf, HostLine, Stopped, at-host, at-other, startOf, endOf, StoppedBy}
 use Rattle.suffix.specs.declared.skips.Step.{Step}
 use Rattle.suffix.specs.declared.skips.Step.the-variants.{On, Off}
 use Rattle.suffix.specs.declared.skips.Stop.{Stop}
 use Rattle.suffix.specs.declared.skips.Stop.the-variants.{Host, Other}
 use Rattle.suffix.proofs.Passes.{line-other}
-use Rattle.suffix.proofs.KindLaws.{kind-lf}
+use Rattle.suffix.proofs.KindLaws.{kind-lf, kind-in}
 use Rattle.suffix.proofs.PlainHosts.{no-plain, lf-plain, mayFollow, shapeFrom, shape-content, shape-host}
 use Rattle.suffix.proofs.IdleLines.{idle-none, idle-on, idle-line, FindsTo, finds-unlike}
 
@@ -262,91 +262,116 @@ module _ {host table : Bytes} {from start i p room : ℕ} (W : Walk host table f
           rw (f, T .same) (byte-passed (λ b. n (sym (kind-lf (lastByte host) (getD table i 0) b))) (T .sum))
 
 module _ {host table kinds : Bytes} (K : KindsOf host kinds) {from start i p room : ℕ} (l : i < length table) where
-  walk-on : Walk host table from start i p (suc room) → {q : Step} {s n : ℕ} (j : ℕ) → j ≡ i + 1 → q ≡ On s n → q ≡ stepOf (getD kinds (getD table i 0) 9) p start (i + 1) → Walk host table from s j n room
+  walk-on : Walk host table from start i p (suc room) → {q : Step} {s n : ℕ} (j : ℕ) → j ≡ i + 1 → q ≡ On s n → q ≡ stepOf (kindIn kinds (getD table i 0)) p start (i + 1) → Walk host table from s j n room
   walk-on W {s = s} {n = n} j z e f =
       let t : stepOf (kindOf (lastByte host) (getD table i 0)) p start (i + 1) ≡ On s n =
-      sym (rw (K .is (getD table i 0)) at f) ∙ e in
+      sym (rw (kind-in K (getD table i 0)) at f) ∙ e in
       rw z (walk-told W l (step-told (kindOf (lastByte host) (getD table i 0)) p start (i + 1) s n t))
 
-  walk-stop : Walk host table from start i p room → {r : Stop} → r ≡ stopOf (getD kinds (getD table i 0) 9) p start i → Stopped host table from r
-  walk-stop W {r} f = rw f (go (eqb (getD kinds (getD table i 0) 9) 8) (eqb p 1) refl refl)
+  walk-stop : Walk host table from start i p room → {r : Stop} → r ≡ stopOf (kindIn kinds (getD table i 0)) p start i → Stopped host table from r
+  walk-stop W {r} f = rw f (go (eqb (kindIn kinds (getD table i 0)) 8) (eqb p 1) refl refl)
     where
-      go : (u v : Bool) → eqb (getD kinds (getD table i 0) 9) 8 ≡ u → eqb p 1 ≡ v → Stopped host table from (stopOf (getD kinds (getD table i 0) 9) p start i)
+      go : (u v : Bool) → eqb (kindIn kinds (getD table i 0)) 8 ≡ u → eqb p 1 ≡ v → Stopped host table from (stopOf (kindIn kinds (getD table i 0)) p start i)
       go u v e g = unfold stopOf in (rw (e, g) (both u v e g))
         where
-          both : (u v : Bool) → eqb (getD kinds (getD table i 0) 9) 8 ≡ u → eqb p 1 ≡ v → Stopped host table from (if u && v then Host start i else Other start)
+          both : (u v : Bool) → eqb (kindIn kinds (getD table i 0)) 8 ≡ u → eqb p 1 ≡ v → Stopped host table from (if u && v then Host start i else Other start)
           both true true e g =
-              let k : kindOf (lastByte host) (getD table i 0) ≡ 8 = sym (K .is (getD table i 0)) ∙ eqb-true (getD kinds (getD table i 0) 9) 8 e in
+              let k : kindOf (lastByte host) (getD table i 0) ≡ 8 = sym (kind-in K (getD table i 0)) ∙ eqb-true (kindIn kinds (getD table i 0)) 8 e in
               let b = lf-of (lastByte host) (getD table i 0) (kindOf (lastByte host) (getD table i 0)) (kind-is (lastByte host) (getD table i 0)) k in
               let q = plain-of (lastByte host) (prevOf table start i) p (rw (W .kind) (kind-is (lastByte host) (prevOf table start i))) (omega (arith, eqb-true p 1 g)) in
               at-host (W .idle) (line-is W l b q)
           both true false e g = at-other (W .idle) (omega (arith, W .onward, W .inside))
           both false v e g = at-other (W .idle) (omega (arith, W .onward, W .inside))
 
+-- ---- by a table of kinds that is lent
+
+pub record WalkBy (kinds host table : Bytes) (from start i p room : ℕ) : Type 0 where
+  pub begun : from ≤ start
+  pub onward : start ≤ i
+  pub is : KindsOf host kinds → Walk host table from start i p room
+
+module _ {kinds host table : Bytes} {from start i p room : ℕ} (l : i < length table) where
+  by-on : WalkBy kinds host table from start i p (suc room) → {q : Step} {s n : ℕ} (j : ℕ) → j ≡ i + 1 → q ≡ On s n → q ≡ stepOf (kindIn kinds (getD table i 0)) p start (i + 1) → WalkBy kinds host table from s j n room
+  by-on W {s = s} {n = n} j z e f = go (eqb (kindIn kinds (getD table i 0)) 8) (step-told (kindIn kinds (getD table i 0)) p start (i + 1) s n (sym f ∙ e) .starts)
+    where
+      go : (u : Bool) → s ≡ (if u then i + 1 else start) → WalkBy kinds host table from s j n room
+      go true t = record { begun = omega (arith, W .begun, W .onward, t); onward = omega (arith, t, z); is = λ K. walk-on K l (W .is K) j z e f }
+      go false t = record { begun = omega (arith, W .begun, t); onward = omega (arith, W .onward, t, z); is = λ K. walk-on K l (W .is K) j z e f }
+
+  by-stop : WalkBy kinds host table from start i p room → {r : Stop} → r ≡ stopOf (kindIn kinds (getD table i 0)) p start i → StoppedBy kinds host table from r
+  by-stop W {r} f = go (eqb (kindIn kinds (getD table i 0)) 8 && eqb p 1) (unfold stopOf in f)
+    where
+      go : (u : Bool) → r ≡ (if u then Host start i else Other start) → StoppedBy kinds host table from r
+      go true e = unfold startOf endOf in record { begun = rw e (W .begun); onward = rw e (W .onward); inside = rw e (omega arith); is = λ K. walk-stop K l (W .is K) f }
+      go false e = unfold startOf endOf in record { begun = rw e (W .begun); onward = rw e (omega arith); inside = rw e (omega (arith, W .onward)); is = λ K. walk-stop K l (W .is K) f }
+
 -- ---- the turns of the loop, four bytes each
 
 walk-room : {host table : Bytes} {from start i p : ℕ} → Walk host table from start i p 0 → i - start < 60 → Walk host table from start i p 4
 walk-room W h = record { onward = W .onward; inside = W .inside; short = omega (arith, W .onward, h); idle = W .idle; kind = W .kind; shape = W .shape; scan = W .scan }
 
--- the invariant: the table of kinds is named again, near at hand for `search`
+by-room : {kinds host table : Bytes} {from start i p : ℕ} → WalkBy kinds host table from start i p 0 → i - start < 60 → WalkBy kinds host table from start i p 4
+by-room W h = record { begun = W .begun; onward = W .onward; is = λ K. walk-room (W .is K) h }
+
 pub record Turn (host table kinds : Bytes) (from start i p : ℕ) : Type 0 where
   pub onward : start ≤ i
   pub inside : i ≤ length table
-  pub long : length kinds ≡ 256
-  pub kinds-are : KindsOf host kinds
-  pub walk : Walk host table from start i p 0
+  pub walk : WalkBy kinds host table from start i p 0
 
-turn-of : {host table kinds : Bytes} {from start i p : ℕ} → KindsOf host kinds → Walk host table from start i p 0 → Turn host table kinds from start i p
-turn-of K W = record { onward = W .onward; inside = W .inside; long = K .long; kinds-are = K; walk = W }
+turn-of : {host table kinds : Bytes} {from start i p : ℕ} → i ≤ length table → WalkBy kinds host table from start i p 0 → Turn host table kinds from start i p
+turn-of h W = record { onward = W .onward; inside = h; walk = W }
 
-pub turn-starts : (host table kinds : Bytes) {from : ℕ} → KindsOf host kinds → from ≤ length table → Turn host table kinds from from from 8
-turn-starts host table kinds K h = turn-of K (walk-starts host table h)
+pub turn-starts : (host table kinds : Bytes) {from : ℕ} → from ≤ length table → Turn host table kinds from from from 8
+turn-starts host table kinds h = turn-of h (record { begun = omega arith; onward = omega arith; is = λ K. walk-starts host table h })
 
-pub turn-ends : {host table kinds : Bytes} {from start i p : ℕ} → Turn host table kinds from start i p → Stopped host table from (Other start)
-turn-ends W = at-other (W .walk .idle) (omega (arith, W .onward, W .inside))
+pub turn-ends : {host table kinds : Bytes} {from start i p : ℕ} → Turn host table kinds from start i p → StoppedBy kinds host table from (Other start)
+unfolding startOf endOf
+turn-ends W = record {
+  begun = W .walk .begun;
+  onward = omega arith;
+  inside = omega (arith, W .onward, W .inside);
+  is = λ K. at-other (W .walk .is K .idle) (omega (arith, W .onward, W .inside));
+}
 
 module _ {host table kinds : Bytes} {from start i p : ℕ} (T : Turn host table kinds from start i p) (h : 4 ≤ length table - i) where
-  K : KindsOf host kinds
-  K = T .kinds-are
-
-  W : Walk host table from start i p 0
+  W : WalkBy kinds host table from start i p 0
   W = T .walk
 
-  pub stop-one : {r : Stop} → r ≡ stopOf (getD kinds (getD table i 0) 9) p start i → Stopped host table from r
-  stop-one = walk-stop K (omega arith) W
+  pub stop-one : {r : Stop} → r ≡ stopOf (kindIn kinds (getD table i 0)) p start i → StoppedBy kinds host table from r
+  stop-one = by-stop (omega arith) W
 
   -- the bytes of this turn leave the line short enough for one label
   module _ (g : i - start < 60) where
-    module _ {q : Step} {b k : ℕ} (e : q ≡ On b k) (f : q ≡ stepOf (getD kinds (getD table i 0) 9) p start (i + 1)) where
-      one : Walk host table from b (i + 1) k 3
-      one = walk-on K (omega arith) (walk-room W g) (i + 1) refl e f
+    module _ {q : Step} {b k : ℕ} (e : q ≡ On b k) (f : q ≡ stepOf (kindIn kinds (getD table i 0)) p start (i + 1)) where
+      one : WalkBy kinds host table from b (i + 1) k 3
+      one = by-on (omega arith) (by-room W g) (i + 1) refl e f
 
-      pub stop-two : {r : Stop} → r ≡ stopOf (getD kinds (getD table (i + 1) 0) 9) k b (i + 1) → Stopped host table from r
-      stop-two = walk-stop K (omega arith) one
+      pub stop-two : {r : Stop} → r ≡ stopOf (kindIn kinds (getD table (i + 1) 0)) k b (i + 1) → StoppedBy kinds host table from r
+      stop-two = by-stop (omega arith) one
 
-      module _ {q₂ : Step} {c l : ℕ} (e₂ : q₂ ≡ On c l) (f₂ : q₂ ≡ stepOf (getD kinds (getD table (i + 1) 0) 9) k b (i + 1 + 1)) where
-        two : Walk host table from c (i + 2) l 2
-        two = walk-on K (omega arith) one (i + 2) (omega arith) e₂ f₂
+      module _ {q₂ : Step} {c l : ℕ} (e₂ : q₂ ≡ On c l) (f₂ : q₂ ≡ stepOf (kindIn kinds (getD table (i + 1) 0)) k b (i + 1 + 1)) where
+        two : WalkBy kinds host table from c (i + 2) l 2
+        two = by-on (omega arith) one (i + 2) (omega arith) e₂ f₂
 
-        pub stop-three : {r : Stop} → r ≡ stopOf (getD kinds (getD table (i + 2) 0) 9) l c (i + 2) → Stopped host table from r
-        stop-three = walk-stop K (omega arith) two
+        pub stop-three : {r : Stop} → r ≡ stopOf (kindIn kinds (getD table (i + 2) 0)) l c (i + 2) → StoppedBy kinds host table from r
+        stop-three = by-stop (omega arith) two
 
-        module _ {q₃ : Step} {d m : ℕ} (e₃ : q₃ ≡ On d m) (f₃ : q₃ ≡ stepOf (getD kinds (getD table (i + 2) 0) 9) l c (i + 2 + 1)) where
-          three : Walk host table from d (i + 3) m 1
-          three = walk-on K (omega arith) two (i + 3) (omega arith) e₃ f₃
+        module _ {q₃ : Step} {d m : ℕ} (e₃ : q₃ ≡ On d m) (f₃ : q₃ ≡ stepOf (kindIn kinds (getD table (i + 2) 0)) l c (i + 2 + 1)) where
+          three : WalkBy kinds host table from d (i + 3) m 1
+          three = by-on (omega arith) two (i + 3) (omega arith) e₃ f₃
 
-          pub stop-four : {r : Stop} → r ≡ stopOf (getD kinds (getD table (i + 3) 0) 9) m d (i + 3) → Stopped host table from r
-          stop-four = walk-stop K (omega arith) three
+          pub stop-four : {r : Stop} → r ≡ stopOf (kindIn kinds (getD table (i + 3) 0)) m d (i + 3) → StoppedBy kinds host table from r
+          stop-four = by-stop (omega arith) three
 
-          four : {q₄ : Step} {s n : ℕ} → q₄ ≡ On s n → q₄ ≡ stepOf (getD kinds (getD table (i + 3) 0) 9) m d (i + 3 + 1) → Turn host table kinds from s (i + 4) n
-          four e₄ f₄ = turn-of K (walk-on K (omega arith) three (i + 4) (omega arith) e₄ f₄)
+          four : {q₄ : Step} {s n : ℕ} → q₄ ≡ On s n → q₄ ≡ stepOf (kindIn kinds (getD table (i + 3) 0)) m d (i + 3 + 1) → Turn host table kinds from s (i + 4) n
+          four e₄ f₄ = turn-of (omega arith) (by-on (omega arith) three (i + 4) (omega arith) e₄ f₄)
 
 -- the same with its premises from the last to the first, as `search` finds them
 pub turn-more : {host table kinds : Bytes} {from start i p : ℕ} {q q₂ q₃ q₄ : Step} {b k c l d m s n : ℕ}
-    → q₄ ≡ On s n → q₄ ≡ stepOf (getD kinds (getD table (i + 3) 0) 9) m d (i + 3 + 1)
-    → q₃ ≡ On d m → q₃ ≡ stepOf (getD kinds (getD table (i + 2) 0) 9) l c (i + 2 + 1)
-    → q₂ ≡ On c l → q₂ ≡ stepOf (getD kinds (getD table (i + 1) 0) 9) k b (i + 1 + 1)
-    → q ≡ On b k → q ≡ stepOf (getD kinds (getD table i 0) 9) p start (i + 1)
+    → q₄ ≡ On s n → q₄ ≡ stepOf (kindIn kinds (getD table (i + 3) 0)) m d (i + 3 + 1)
+    → q₃ ≡ On d m → q₃ ≡ stepOf (kindIn kinds (getD table (i + 2) 0)) l c (i + 2 + 1)
+    → q₂ ≡ On c l → q₂ ≡ stepOf (kindIn kinds (getD table (i + 1) 0)) k b (i + 1 + 1)
+    → q ≡ On b k → q ≡ stepOf (kindIn kinds (getD table i 0)) p start (i + 1)
     → Turn host table kinds from start i p → 4 ≤ length table - i → i - start < 60 → Turn host table kinds from s (i + 4) n
 turn-more e₄ f₄ e₃ f₃ e₂ f₂ e f T h g = four T h g e f e₂ f₂ e₃ f₃ e₄ f₄
 

@@ -1,6 +1,5 @@
 pub mod Pass
 pub mod Depth
-pub mod Span
+pub mod Passed
 pub mod Idle
-pub mod Search
 pub mod Deeper

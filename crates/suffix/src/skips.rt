@@ -2,15 +2,14 @@
 use crate::in_content;
 ghost use mathlib.Core.Path.{_≡_};
 ghost use mathlib.Core.Bool.{_&&_, _||_, not};
-ghost use Prim.Native.Nat.{suc, _+_, _≤_, _<_, max};
+ghost use Prim.Native.Nat.{_+_, _≤_, _<_};
 ghost use lib.ListN.{length, getD, drop};
 ghost use lib.Dec.{eqb, ltb};
-ghost use Rattle.ascii.specs.Ascii.{if_then_else_, takeWhile, lastOf};
-ghost use Rattle.ascii.specs.Class.{Classifies};
+ghost use Rattle.ascii.specs.Ascii.{if_then_else_, takeWhile};
 ghost use Rattle.hosts.specs.Host.{labels};
-ghost use Rattle.hosts.specs.code.Place.{Stands, endsAtLabel};
+ghost use Rattle.hosts.specs.code.Place.{endsAtLabel};
 ghost use Rattle.suffix.specs.code.Pass.{inLine, inContent};
-ghost use Rattle.suffix.specs.code.Idle.{Skipped, lastByte, kindOf, KindsOf, stepOf, stopOf, Stopped, Passes, Shallow};
+ghost use Rattle.suffix.specs.code.Idle.{Skipped, lastByte, kindIn, KindBy, KindsBy, stepOf, stopOf, StoppedBy, ShallowBy};
 
 // One byte on: where its line begins, and the byte's kind.
 pub enum Step {
@@ -41,8 +40,7 @@ fn last_byte(s: &[u8]) -> u8
 
 // 0 a letter or digit, 1 one alike to `last`, 6 the hyphen, 7 the dot, 8 LF, 9 the rest.
 fn kind_of(classes: &[u8; 256], last: u8, b: u8) -> u8
-    requires { ⌜ Classifies (now classes) ⌝ }
-    ensures { λ r. ⌜ r ≡ kindOf last b ⌝ }
+    ensures { λ r. ⌜ KindBy (now (classes .entry)) last b r ⌝ }
 {
     // a letter or a digit
     if classes[b as usize] < 2 {
@@ -64,9 +62,8 @@ fn kind_of(classes: &[u8; 256], last: u8, b: u8) -> u8
 }
 
 // The kind of each byte value, for a host.
-pub(crate) fn kinds(classes: &[u8; 256], host: &[u8]) -> [u8; 256]
-    requires { ⌜ Classifies (now classes) ⌝ }
-    ensures { λ r. ⌜ KindsOf (now (host .entry)) r ⌝ }
+pub fn kinds(classes: &[u8; 256], host: &[u8]) -> [u8; 256]
+    ensures { λ r. ⌜ KindsBy (now (classes .entry)) (now (host .entry)) r ⌝ }
 {
     let last = last_byte(host);
     let mut kinds = [0u8; 256];
@@ -79,8 +76,7 @@ pub(crate) fn kinds(classes: &[u8; 256], host: &[u8]) -> [u8; 256]
 }
 
 fn kind(kinds: &[u8; 256], b: u8) -> u8
-    requires { ⌜ length (now kinds) ≡ 256 ⌝ }
-    ensures { λ r. ⌜ r ≡ getD (now (kinds .entry)) b 9 ⌝ }
+    ensures { λ r. ⌜ r ≡ kindIn (now (kinds .entry)) b ⌝ }
 {
     kinds[b as usize]
 }
@@ -96,8 +92,8 @@ fn line_start(k: u8, start: usize, next: usize) -> usize
 // 24: a letter or digit (0 or 3) behind any byte; a hyphen (18) behind all but dot (7) and LF (8); a dot (21) behind a letter or
 // digit (0 or 1); an LF (24) behind one that is not alike to the host's last byte (0).
 fn advance(kinds: &[u8; 256], s: &[u8], at: usize, before: u8, start: usize) -> Step
-    requires { ⌜ (length (now kinds) ≡ 256) × (at < length (now s)) ⌝ }
-    ensures { λ r. ⌜ r ≡ stepOf (getD (now (kinds .entry)) (getD (now (s .entry)) at 0) 9) before start (at + 1) ⌝ }
+    requires { ⌜ at < length (now s) ⌝ }
+    ensures { λ r. ⌜ r ≡ stepOf (kindIn (now (kinds .entry)) (getD (now (s .entry)) at 0)) before start (at + 1) ⌝ }
 {
     let k = kind(kinds, s[at]);
     let sum = wide(before) + 3 * wide(k);
@@ -109,8 +105,8 @@ fn advance(kinds: &[u8; 256], s: &[u8], at: usize, before: u8, start: usize) -> 
 
 // Such a byte that may not stand there: the LF (8) behind a byte alike to the host's last (1) ends a host, all else another line.
 fn halt(kinds: &[u8; 256], s: &[u8], at: usize, before: u8, start: usize) -> Stop
-    requires { ⌜ (length (now kinds) ≡ 256) × (at < length (now s)) ⌝ }
-    ensures { λ r. ⌜ r ≡ stopOf (getD (now (kinds .entry)) (getD (now (s .entry)) at 0) 9) before start at ⌝ }
+    requires { ⌜ at < length (now s) ⌝ }
+    ensures { λ r. ⌜ r ≡ stopOf (kindIn (now (kinds .entry)) (getD (now (s .entry)) at 0)) before start at ⌝ }
 {
     let k = kind(kinds, s[at]);
     if k == 8 {
@@ -125,8 +121,8 @@ fn halt(kinds: &[u8; 256], s: &[u8], at: usize, before: u8, start: usize) -> Sto
 // Four bytes a turn, so that the end and the line's length are tested once for four. A line of 60 bytes or more is left to
 // others: a shorter one has at most 63 behind the turn, and so no label that is too long.
 fn plain_lines(kinds: &[u8; 256], host: &[u8], s: &[u8], from: usize) -> Stop
-    requires { ⌜ KindsOf (now host) (now kinds) × (from ≤ length (now s)) ⌝ }
-    ensures { λ r. ⌜ Stopped (now (host .entry)) (now (s .entry)) from r ⌝ }
+    requires { ⌜ from ≤ length (now s) ⌝ }
+    ensures { λ r. ⌜ StoppedBy (now (kinds .entry)) (now (host .entry)) (now (s .entry)) from r ⌝ }
 {
     let mut start = from;
     // as behind an LF
@@ -164,7 +160,7 @@ fn plain_lines(kinds: &[u8; 256], host: &[u8], s: &[u8], from: usize) -> Stop
 }
 
 // Where a line ends, its LF or the end; one that ends soon.
-pub(crate) fn short_end(s: &[u8], from: usize) -> usize
+pub fn short_end(s: &[u8], from: usize) -> usize
     ensures { λ r. ⌜ r ≡ from + length (takeWhile inLine (drop from (now (s .entry)))) ⌝ }
 {
     byte_search::soon_in(s, from, b'\n', b'\n')
@@ -195,7 +191,7 @@ pub fn content_end(s: &[u8], from: usize) -> usize
 
 // Behind the line at a place, where it is empty or a comment; the place itself where it is another.
 fn next_line(s: &[u8], at: usize) -> usize
-    requires { ⌜ (at < length (now s)) × (length (now s) ≤ 1048576) ⌝ }
+    requires { ⌜ at < length (now s) ⌝ }
     ensures { λ r. ⌜ Skipped (now (s .entry)) at r ⌝ }
 {
     if s[at] == b'\n' {
@@ -215,7 +211,7 @@ fn next_line(s: &[u8], at: usize) -> usize
 
 // Empty lines and comments.
 fn skip_comments(s: &[u8], from: usize) -> usize
-    requires { ⌜ (from ≤ length (now s)) × (length (now s) ≤ 1048576) ⌝ }
+    requires { ⌜ from ≤ length (now s) ⌝ }
     ensures { λ r. ⌜ Skipped (now (s .entry)) from r ⌝ }
 {
     let mut at = from;
@@ -262,30 +258,9 @@ fn is_idle(host: &[u8], tail: &[u8], most: usize, w: &[u8]) -> bool
     true
 }
 
-// Where the labels begin that are one more than the depth; the host's start where it has no more.
-fn tail_start(host: &[u8], depth: usize) -> usize
-    ensures { λ r. ⌜ Stands (lastOf (suc depth) (labels (now (host .entry)))) (now (host .entry)) r ⌝ }
-{
-    if depth < hosts::label_count(host) {
-        return hosts::last_labels(host, depth + 1);
-    }
-    0
-}
-
-// The same for the larger of two depths, where the place is known for one.
-pub(crate) fn deeper_tail(host: &[u8], depth: usize, start: usize, d: usize) -> usize
-    requires { ⌜ Stands (lastOf (suc depth) (labels (now host))) (now host) start ⌝ }
-    ensures { λ r. ⌜ Stands (lastOf (suc (max depth d)) (labels (now (host .entry)))) (now (host .entry)) r ⌝ }
-{
-    if depth < d {
-        return tail_start(host, d);
-    }
-    start
-}
-
 // The first line that may match the host in more labels than most or be an exception, or go deeper than more of its labels than
-// the depth, whose labels and one more begin at last.
-pub(crate) fn idle_lines(
+// the depth, whose labels and one more begin at last. A place behind the host's end, which no caller has, is none where they do.
+pub fn idle_lines(
     kinds: &[u8; 256],
     host: &[u8],
     most: usize,
@@ -294,9 +269,11 @@ pub(crate) fn idle_lines(
     s: &[u8],
     from: usize,
 ) -> usize
-    requires { ⌜ Passes (now kinds) (now host) (now s) depth last from ⌝ }
-    ensures { λ r. ⌜ Shallow (now (host .entry)) (now (s .entry)) most depth from r ⌝ }
+    ensures { λ r. ⌜ ShallowBy (now (kinds .entry)) (now (host .entry)) (now (s .entry)) most depth last from r ⌝ }
 {
+    if host.len() < last {
+        return from;
+    }
     let tail = &host[last..];
     let mut at = from;
     while at < s.len() {

@@ -8,10 +8,10 @@ use Rattle.suffix.specs.Suffix.{readRule, readTable, privateLabel}
 use Rattle.suffix.specs.code.Pass.{bestOf, oneRule, readLine}
 use Rattle.suffix.specs.code.Deeper.{isTheLabel}
 use Rattle.suffix.specs.code.Depth.{Good}
-use Rattle.suffix.specs.code.Span.{Held}
+use Rattle.label_lookup.specs.code.Span.{Held}
 use Rattle.suffix.specs.declared.Best.{Best}
 use Rattle.suffix.specs.declared.Best.the-variants.{Sizes}
-use Rattle.suffix.specs.declared.Deeper.{Deeper}
+use Rattle.label_lookup.specs.declared.Deeper.{Deeper}
 use Rattle.deeper_rules.specs.declared.Finding.{Finding}
 
 abbrev pub found : ℕ → ℕ → Finding

@@ -7,8 +7,8 @@ use Rattle.ascii.specs.Ascii.{Bytes, isNone}
 use Rattle.hosts.specs.Host.{isHost}
 use Rattle.suffix.specs.Suffix.{readTable, privateLabel, orEmpty}
 use Rattle.suffix.specs.code.Depth.{deeperThan}
-use Rattle.suffix.specs.code.Span.{Held}
-use Rattle.suffix.specs.declared.Deeper.{Deeper}
+use Rattle.label_lookup.specs.code.Span.{Held}
+use Rattle.label_lookup.specs.declared.Deeper.{Deeper}
 use Rattle.origin.specs.Origin.{Authority, beginsHttps, httpsUrl}
 use Rattle.origin.specs.code.Parts.{part}
 use Rattle.entries.specs.AppId.{isBadAppId, appLabel}

@@ -4,13 +4,14 @@ use mathlib.Core.Bool.{Bool, true, _&&_, _||_}
 use Prim.Native.Nat.{ℕ, suc, _+_, _-_, _*_, _≤_, _<_}
 use Prim.Native.Char.{code}
 use lib.ListN.{length, take, drop, getD}
-use lib.Dec.{eqb, leb}
+use lib.Dec.{eqb, leb, ltb}
 use Rattle.ascii.specs.Ascii.{Bytes, if_then_else_, takeWhile, lastOf, splitAt, isDigit, isLetter, lowerByte}
+use Rattle.ascii.specs.Class.{Classifies}
 use Rattle.hosts.specs.Host.{labels, isHost}
 use Rattle.hosts.specs.code.Place.{Stands}
 use Rattle.suffix.specs.Suffix.{readLines}
 use Rattle.suffix.specs.code.Pass.{bestOf, joinBest, inLine, inContent}
-use Rattle.suffix.specs.code.Span.{Passed}
+use Rattle.suffix.specs.code.Passed.{Passed}
 use Rattle.suffix.specs.declared.Best.the-variants.{Sizes}
 use Rattle.suffix.specs.declared.skips.Step.{Step}
 use Rattle.suffix.specs.declared.skips.Step.the-variants.{On, Off}
@@ -53,6 +54,17 @@ pub record KindsOf (host kinds : Bytes) : Type 0 where
   pub long : length kinds ≡ 256
   pub is : (b : ℕ) → getD kinds b 9 ≡ kindOf (lastByte host) b
 
+-- the kind that a table of 256 gives to b, 9 where b is no byte
+unfoldable pub kindIn : Bytes → ℕ → ℕ
+kindIn kinds b = if ltb b 256 then getD kinds b 0 else 9
+
+-- a byte's kind, and the table of the kinds, where the class table that is lent gives each byte its class
+pub record KindBy (classes : Bytes) (last b r : ℕ) : Type 0 where
+  pub is : Classifies classes → r ≡ kindOf last b
+
+pub record KindsBy (classes host r : Bytes) : Type 0 where
+  pub is : Classifies classes → KindsOf host r
+
 -- a byte of the kind k behind one of the kind p, in a line that begins at start: where the next byte's line begins, and k
 unfoldable pub stepOf : ℕ → ℕ → ℕ → ℕ → Step
 stepOf k p start next = if leb (p + 3 * k) 24 then On (if eqb k 8 then next else start) k else Off
@@ -74,6 +86,21 @@ pub data Stopped (host table : Bytes) (from : ℕ) : Stop → Type 0 where
   at-host : {start to : ℕ} → Idle host table from start → HostLine table start to → Stopped host table from (Host start to)
   at-other : {start : ℕ} → Idle host table from start → start ≤ length table → Stopped host table from (Other start)
 
+unfoldable pub startOf : Stop → ℕ
+startOf (Host start to) = start
+startOf (Other start) = start
+
+unfoldable pub endOf : Stop → ℕ
+endOf (Host start to) = to
+endOf (Other start) = start
+
+-- the same where the table of kinds that is lent is the host's
+pub record StoppedBy (kinds host table : Bytes) (from : ℕ) (r : Stop) : Type 0 where
+  pub begun : from ≤ startOf r
+  pub onward : startOf r ≤ endOf r
+  pub inside : endOf r ≤ length table
+  pub is : KindsOf host kinds → Stopped host table from r
+
 -- what the pass over such lines is lent: the kinds for the host, the depth d that is known and where the labels begin that are one
 -- more, and a place of a table that is not too long
 pub record Passes (kinds host table : Bytes) (d start from : ℕ) : Type 0 where
@@ -89,3 +116,8 @@ pub record Shallow (host table : Bytes) (m d from to : ℕ) : Type 0 where
   pub best : joinBest (Sizes 0 m) (bestOf (labels host) (readLines (splitAt (code "\n") (drop from table)))) ≡ joinBest (Sizes 0 m) (bestOf (labels host) (readLines (splitAt (code "\n") (drop to table))))
   -- which lines these are
   pub passed : Passed host table d from to
+
+-- the same where the pass is lent what it needs
+pub record ShallowBy (kinds host table : Bytes) (m d last from to : ℕ) : Type 0 where
+  pub onward : from ≤ to
+  pub is : Passes kinds host table d last from → Shallow host table m d from to

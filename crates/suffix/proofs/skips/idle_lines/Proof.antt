@@ -1,13 +1,13 @@
 -- `suffix::idle_lines` meets its contract.
 use Prim.Native.Nat.{_-_}
 use lib.ListN.{length}
-use Rattle.suffix.specs.code.Idle.{Shallow}
+use Rattle.suffix.specs.code.Idle.{ShallowBy}
 use Rattle.suffix.proofs.SkipLaws.{skip-laws}
 use Rattle.suffix.proofs.skips.idle_lines.Statement.{statement}
 use Rattle.suffix.proofs.skips.idle_lines.Tie as tie
 
 abbrev Inv-loop : tie.InvT-loop
-Inv-loop kinds host most depth last s from tail at₀ at = Shallow host s most depth from at
+Inv-loop kinds host most depth last s from tail at₀ at = ShallowBy kinds host s most depth last from at
 
 abbrev μ-loop : tie.MeasureT-loop
 μ-loop kinds host most depth last s from tail at₀ at = length s - at
@@ -18,6 +18,8 @@ idle-lines-spec =
     (tie.spec
     Inv-loop
     μ-loop
+    {- returns -}
+    (λ c. search skip-laws)
     {- sub-tail -}
     (λ c. search skip-laws)
     {- part-tail-start -}
@@ -44,17 +46,17 @@ idle-lines-spec =
     (λ c. search skip-laws)
     {- loop-again -}
     (λ c. search skip-laws)
-    {- returns -}
+    {- returns-2 -}
     (λ c. search skip-laws)
     {- enum-known-found-2 -}
     (λ c. search skip-laws)
     {- skip-comments-requires -}
     (λ c κs. search skip-laws)
-    {- returns-2 -}
+    {- returns-3 -}
     (λ c. search skip-laws)
     {- loop-less-2 -}
     (λ c. search skip-laws)
     {- loop-again-2 -}
     (λ c. search skip-laws)
-    {- returns-3 -}
+    {- returns-4 -}
     (λ c. search skip-laws))

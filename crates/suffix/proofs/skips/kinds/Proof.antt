@@ -6,7 +6,7 @@ use Rattle.suffix.proofs.skips.kinds.Statement.{statement}
 use Rattle.suffix.proofs.skips.kinds.Tie as tie
 
 abbrev Inv-loop : tie.InvT-loop
-Inv-loop classes host last kinds₀ i₀ kinds i = Filled last kinds i
+Inv-loop classes host last kinds₀ i₀ kinds i = Filled classes last kinds i
 
 abbrev μ-loop : tie.MeasureT-loop
 μ-loop classes host last kinds₀ i₀ kinds i = 256 - i
