@@ -10,7 +10,7 @@ use lib.Dec.{eqb, ltb}
 use borrow.Author.Tests.{ltb-false}
 use Rattle.ascii.specs.Ascii.{Bytes, if_then_else_, _>>=_, _when_, _orElse_, isNone, filterBy}
 use Rattle.suffix.specs.Suffix.{readTable}
-use Rattle.origin.specs.Matching.{facetMatches}
+use Rattle.matching.specs.Matching.{facetMatches}
 use Rattle.refusals.specs.declared.Refusal.{Refusal}
 use Rattle.refusals.specs.declared.Refusal.the-variants.{NotFetched, WrongType, LongList, BadTable}
 use Rattle.trusted_list.specs.TrustedList.{selected, listRefusal, entries}

@@ -11,8 +11,8 @@ use Rattle.ascii.specs.Ascii.{Bytes, if_then_else_, _>>=_, isEmpty, all, same, 
 use Rattle.suffix.specs.Suffix.{privateLabel}
 use Rattle.suffix.proofs.Case.{private-label}
 use Rattle.origin.specs.Origin.{Authority, beginsHttps, httpsUrl, webOrigin, isFacet}
-use Rattle.origin.specs.Matching.{sameHost, sameOrigin, facetMatches}
-use Rattle.origin.proofs.Origins.{same-origin-host}
+use Rattle.matching.specs.Matching.{sameHost, sameOrigin, facetMatches}
+use Rattle.matching.proofs.Compared.{same-origin-host}
 use Rattle.ascii.proofs.Compare.{same-eq}
 use Rattle.refusals.specs.declared.Refusal.{Refusal}
 use Rattle.trusted_list.specs.TrustedList.{entries}

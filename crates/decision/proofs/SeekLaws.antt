@@ -9,7 +9,7 @@ use mir.Syntax.{w64}
 use mir.Val.{Fits}
 use lib.ListN.{length, take}
 use Rattle.ascii.specs.Ascii.{Bytes, _>>=_}
-use Rattle.origin.specs.Matching.{facetMatches}
+use Rattle.matching.specs.Matching.{facetMatches}
 use Rattle.json_text.specs.declared.Next.{Next}
 use Rattle.json_text.specs.declared.Next.the-variants.{At, Bad}
 use Rattle.trusted_list.specs.code.Entries.{firstEntry}

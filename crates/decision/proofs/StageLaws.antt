@@ -8,7 +8,7 @@ use lib.ListN.{length}
 use Rattle.ascii.specs.Ascii.{Bytes, isEmpty, same, lower, beginsWith, beginsWithNoCase}
 use Rattle.ascii.proofs.ListLaws.{empty-is, empty-not}
 use Rattle.origin.specs.Origin.{beginsHttps, httpsUrl, webOrigin, isFacet}
-use Rattle.origin.specs.Matching.{sameHost}
+use Rattle.matching.specs.Matching.{sameHost}
 use Rattle.refusals.specs.declared.Refusal.{Refusal}
 use Rattle.refusals.specs.declared.Refusal.the-variants.{Stranger, BadAppId, ForeignAppId}
 use Rattle.fetch_record.specs.Fetching.{fetching}

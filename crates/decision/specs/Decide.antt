@@ -7,7 +7,7 @@ use lib.Dec.{eqb}
 use Rattle.ascii.specs.Ascii.{Bytes, if_then_else_, _>>=_, _when_, _orElse_, isNone, isEmpty, same}
 use Rattle.suffix.specs.Suffix.{readTable}
 use Rattle.origin.specs.Origin.{beginsHttps, httpsUrl, webOrigin, isFacet}
-use Rattle.origin.specs.Matching.{sameHost, facetMatches}
+use Rattle.matching.specs.Matching.{sameHost, facetMatches}
 use Rattle.refusals.specs.declared.Refusal.{Refusal}
 use Rattle.refusals.specs.declared.Refusal.the-variants.{Stranger, BadAppId, ForeignAppId, NotFetched, WrongType, BadTable, NotListed}
 use Rattle.trusted_list.specs.TrustedList.{listRefusal, entries}

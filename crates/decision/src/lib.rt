@@ -54,7 +54,7 @@ pub fn before_list(caller: &[u8], appid: &[u8], items: &[u8], text: &[u8]) -> St
                 return Stage::Settled(Answer::Refused(Refusal::ForeignAppId));
             }
             AppId::Url(end) => {
-                if origin::same_host(caller, appid) {
+                if matching::same_host(caller, appid) {
                     return Stage::Settled(Answer::Rule3);
                 }
                 return match fetch_record::fetching(items, text) {
@@ -104,7 +104,7 @@ fn first_match(
         let verdict = e.verdict;
         match verdict {
             Verdict::Kept => {
-                if origin::matches(caller, ascii::prefix(&d.bytes, d.len)) {
+                if matching::matches(caller, ascii::prefix(&d.bytes, d.len)) {
                     return Match::At(n);
                 }
                 n += 1;

@@ -1,6 +1,5 @@
 pub mod Steps
 pub mod Readings
-pub mod UnlikeSteps
 pub mod Laws
 pub mod Writings
 pub mod Origins

@@ -1,19 +1,17 @@
--- Normal forms: read again, no longer, matched alike, plain ASCII. Assumes nothing.
+-- Normal forms: read again, no longer, plain ASCII. Assumes nothing.
 use mathlib.Core.Path.{_≡_, refl, sym, ap, _∙_}
 use mathlib.Core.List.{[], _∷_, _++_, append-nil}
-use mathlib.Core.Bool.{Bool, true, false, _&&_, _||_, and-eq-true-iff}
+use mathlib.Core.Bool.{Bool, true, false, _||_, and-eq-true-iff}
 use mathlib.Core.Option.{Option, none, some}
 use Prim.Native.Nat.{ℕ, _+_, _≤_}
 use native.Mathlib.Omega.{arith}
 use lib.ListN.{length, length-append}
-use lib.Dec.{eqb}
 use borrow.Author.Tests.{le-leb}
-use Rattle.ascii.specs.Ascii.{Bytes, if_then_else_, isEmpty, all, takeWhile, dropWhile, isDigit, isUpper, isLetter, same, sameNoCase, lowerByte, lower, beginsWith, beginsWithNoCase, text, value, valueFrom}
+use Rattle.ascii.specs.Ascii.{Bytes, if_then_else_, isEmpty, all, takeWhile, dropWhile, isDigit, isUpper, isLetter, same, lowerByte, lower, beginsWith, beginsWithNoCase, text, value, valueFrom}
 use Rattle.ascii.proofs.Compare.{length-lower}
 use Rattle.hosts.specs.Host.{isHost, isLabelByte}
 use Rattle.hosts.proofs.Case.{is-byte, is-label-byte, lower-lower, map-map-eq, all-lower, is-host}
-use Rattle.origin.specs.Origin.{Authority, beginsHttps, isPort, readPort, isHostByte, readHost, readHttps, webOrigin, isNative, isFacet, shownPort, normalWeb, normalOf, normalForm}
-use Rattle.origin.specs.Matching.{effectivePort, sameOrigin, facetMatches}
+use Rattle.origin.specs.Origin.{Authority, beginsHttps, isPort, effectivePort, readPort, isHostByte, readHost, readHttps, webOrigin, isNative, isFacet, shownPort, normalWeb, normalOf, normalForm}
 use Rattle.origin.specs.code.Parts.{isHidden}
 use Rattle.origin.specs.code.Normals.{normalAuthority}
 use Rattle.origin.proofs.Origins.{origin-read, same-eq, port-digits, native-no-web, facet-short-enough}
@@ -124,7 +122,7 @@ pub host-normal : (a : Authority) → normalAuthority a .host ≡ lower (a .host
 unfolding normalAuthority
 host-normal a = refl
 
-port-normal : (a : Authority) → effectivePort (normalAuthority a .port) ≡ effectivePort (a .port)
+pub port-normal : (a : Authority) → effectivePort (normalAuthority a .port) ≡ effectivePort (a .port)
 unfolding effectivePort normalAuthority isHidden
 port-normal a = go (isEmpty (a .port)) refl (same (a .port) (text "443")) refl
   where
@@ -170,42 +168,3 @@ facet-normal s h = go (webOrigin s) refl
     go : (o : Option Authority) → webOrigin s ≡ o → isFacet (normalForm s) ≡ true
     go none e = rw (own-normal s e) h
     go (some a) e = web (normalForm s) (normalAuthority a) (origin-normal s a e) (omega (arith, normal-short s, facet-short-enough s h))
-
--- ---- matching
-
-same-lower : (g h : Bytes) → sameNoCase g (lower h) ≡ sameNoCase g h
-unfolding sameNoCase
-same-lower g h = rw lower-twice
-
-differ : (s t : Bytes) (b : Authority) → webOrigin s ≡ none → webOrigin t ≡ some b → same s t ≡ false
-differ s t b p q = go (same s t) refl
-  where
-    go : (u : Bool) → same s t ≡ u → same s t ≡ false
-    go false e = e
-    go true e = let w : s ≡ t = same-eq s t e in let z : _≡_ {A = ℕ} 0 1 = cc in absurd (omega arith)
-
-match-web : (caller t : Bytes) (c b : Authority) → webOrigin caller ≡ some c → webOrigin t ≡ some b → facetMatches caller t ≡ sameOrigin (some c) (some b)
-unfolding facetMatches
-match-web caller t c b p q = rw (p, q, facetMatches)
-
-same-normal : (c a : Authority) → sameOrigin (some c) (some (normalAuthority a)) ≡ sameOrigin (some c) (some a)
-unfolding sameOrigin
-same-normal c a = rw (host-normal a, same-lower (c .host) (a .host), port-normal a)
-
-match-own : (caller t : Bytes) → webOrigin caller ≡ none → facetMatches caller t ≡ same caller t
-unfolding facetMatches
-match-own caller t p = rw (p, facetMatches)
-
--- an entry's normal form matches the same callers
-pub match-normal : (caller e : Bytes) → facetMatches caller (normalForm e) ≡ facetMatches caller e
-match-normal caller e = go (webOrigin e) refl (webOrigin caller) refl
-  where
-    go : (o : Option Authority) → webOrigin e ≡ o → (c : Option Authority) → webOrigin caller ≡ c → facetMatches caller (normalForm e) ≡ facetMatches caller e
-    go none p c q = ap (facetMatches caller) (own-normal e p)
-    go (some a) p none q =
-        match-own caller (normalForm e) q ∙ differ caller (normalForm e) (normalAuthority a) q (origin-normal e a p)
-        ∙ sym (match-own caller e q ∙ differ caller e a q p)
-    go (some a) p (some c) q =
-        match-web caller (normalForm e) c (normalAuthority a) q (origin-normal e a p)
-        ∙ same-normal c a
-        ∙ sym (match-web caller e c a q p)

@@ -8,14 +8,13 @@ use native.Mathlib.Omega.{arith}
 use lib.ListN.{length, drop, length-append, length-drop}
 use lib.Dec.{eqb, leb}
 use borrow.Author.Tests.{eqb-true, leb-true}
-use Rattle.ascii.specs.Ascii.{Bytes, if_then_else_, _>>=_, _when_, isNone, isEmpty, all, takeWhile, dropWhile, between, isDigit, isUpper, same, lowerByte, lower, sameNoCase, beginsWith, beginsWithNoCase, text, value, number16}
+use Rattle.ascii.specs.Ascii.{Bytes, if_then_else_, _>>=_, _when_, isNone, isEmpty, all, takeWhile, dropWhile, between, isDigit, isUpper, same, lowerByte, lower, beginsWith, beginsWithNoCase, text, value, number16}
 use Rattle.ascii.proofs.Compare.{length-lower}
 pub use Rattle.ascii.proofs.Compare.{same-eq}
 use Rattle.ascii.proofs.OptionLaws.{Holds, holds}
 use Rattle.ascii.proofs.Scan.{while-all, while-rest, while-length}
 use Rattle.hosts.specs.Host.{isHost}
 use Rattle.origin.specs.Origin.{Authority, beginsHttps, androidPrefix, iosPrefix, isPort, readPort, isHostByte, readHost, readHttps, webOrigin, isKeyHashByte, isAndroid, isIos, beginsNative, isNative, isFacet, shownPort}
-use Rattle.origin.specs.Matching.{effectivePort, sameOrigin}
 
 -- ---- tests
 
@@ -113,12 +112,6 @@ port-digits p e = go (isEmpty p) (all isDigit p) (leb (value p) 65535) e
     go u true w e = refl
     go true false w e = let z : _≡_ {A = ℕ} 0 1 = cc in absurd (omega arith)
     go false false w e = let z : _≡_ {A = ℕ} 0 1 = cc in absurd (omega arith)
-
--- ---- two web origins
-
-pub same-origin-host : (a b : Authority) → sameOrigin (some a) (some b) ≡ true → sameNoCase (a .host) (b .host) ≡ true
-unfolding sameOrigin
-same-origin-host a b e = both (sameNoCase (a .host) (b .host)) (eqb (effectivePort (a .port)) (effectivePort (b .port))) e .0
 
 -- ---- native identities
 

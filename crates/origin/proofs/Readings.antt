@@ -1,6 +1,6 @@
 -- Where the parts of a web origin or an HTTPS URL stand. Assumes nothing.
 use mathlib.Core.Path.{_≡_, refl, sym, _∙_}
-use mathlib.Core.Bool.{Bool, true, false, _&&_, not, and-true, and-false}
+use mathlib.Core.Bool.{Bool, true, false, _&&_, not, and-false}
 use mathlib.Core.List.{[], _∷_}
 use mathlib.Core.Option.{Option, none, some}
 use Prim.Native.Nat.{ℕ, _+_, _-_, _≤_, _<_}
@@ -9,8 +9,8 @@ use native.Mathlib.Omega.{arith}
 use lib.ListN.{length, getD, take, drop, drop-of-length-le}
 use lib.Seq.{drop-cons}
 use lib.Dec.{leb}
-use borrow.Author.Tests.{eq-eqb, ne-eqb, lt-leb, le-leb, leb-true, leb-false}
-use Rattle.ascii.specs.Ascii.{Bytes, if_then_else_, _when_, isEmpty, all, takeWhile, isDigit, same, sameNoCase, beginsWith, beginsWithNoCase, text, value, number16}
+use borrow.Author.Tests.{ne-eqb, lt-leb, le-leb, leb-true, leb-false}
+use Rattle.ascii.specs.Ascii.{Bytes, if_then_else_, _when_, isEmpty, all, takeWhile, isDigit, beginsWith, beginsWithNoCase, text, value, number16}
 use Rattle.ascii.specs.code.Numbers.{numberOf}
 use Rattle.ascii.specs.declared.decimals.Number.{Number}
 use Rattle.ascii.specs.declared.decimals.Number.the-variants.{Value, Malformed as NoNumber}
@@ -18,9 +18,8 @@ use Rattle.ascii.proofs.Compare.{begins-no-case-short}
 use Rattle.ascii.proofs.Scan.{scan-rest, scan-part, scan-to}
 use Rattle.hosts.specs.Host.{isHost}
 use Rattle.hosts.proofs.Places.{rest-whole}
-use Rattle.origin.specs.Origin.{Authority, beginsHttps, isPort, readPort, isHostByte, readHost, readHttps, webOrigin, isNative, isFacet, isTail, httpsUrl}
-use Rattle.origin.specs.Matching.{sameHost, effectivePort, sameOrigin, facetMatches}
-use Rattle.origin.specs.code.Parts.{part, authorityIn, Inside, Within, nowhere, within, Reads, portOf, withoutPort, HostEnd, sameAt, isEnd}
+use Rattle.origin.specs.Origin.{Authority, beginsHttps, isPort, effectivePort, readPort, isHostByte, readHost, readHttps, webOrigin, isNative, isFacet, isTail, httpsUrl}
+use Rattle.origin.specs.code.Parts.{part, authorityIn, Inside, Within, nowhere, within, Reads, portOf, withoutPort, HostEnd, isEnd}
 use Rattle.origin.specs.declared.Parts.{Parts}
 use Rattle.origin.specs.declared.Reading.{Reading}
 use Rattle.origin.specs.declared.Reading.the-variants.{Found, Malformed}
@@ -247,46 +246,3 @@ module _ (s : Bytes) {q : Reading} (l : length s ≤ 512) (R : Reads s (webOrigi
   pub facet-native : {r : Bool} → q ≡ Malformed → r ≡ isNative s → r ≡ isFacet s
   unfolding isFacet
   facet-native h f = f ∙ rw (← is-none R h, le-leb (length s) 512 l)
-
--- ---- hosts and ports compared
-
-pub hosts-compared : (s t : Bytes) (a b : ℕ) {r : Bool} → r ≡ sameNoCase (take (a - 8) (drop 8 s)) (take (b - 8) (drop 8 t)) → r ≡ sameNoCase (part s 8 a) (part t 8 b)
-unfolding part
-hosts-compared s t a b e = e
-
-module _ (s t : Bytes) (p q : Parts) where
-  pub ports-equal : {r : Bool} → p .port ≡ q .port → r ≡ sameNoCase (part s 8 (p .end)) (part t 8 (q .end)) → r ≡ sameAt s p t q
-  unfolding sameAt
-  ports-equal e f = f ∙ rw (eq-eqb (p .port) (q .port) e, and-true)
-
-  pub ports-differ : (p .port ≡ q .port → ⊥) → false ≡ sameAt s p t q
-  unfolding sameAt
-  ports-differ n = rw (ne-eqb (p .port) (q .port) n, and-false)
-
-module _ (s : Bytes) {q : Reading} (R : Reads s (webOrigin s) q) where
-  pub host-no-caller : (o : Option Authority) → q ≡ Malformed → false ≡ sameHost (webOrigin s) o
-  unfolding sameHost
-  host-no-caller none h = rw (← is-none R h)
-  host-no-caller (some b) h = rw (← is-none R h)
-
-  pub match-native : (t : Bytes) {r : Bool} → q ≡ Malformed → r ≡ same s t → r ≡ facetMatches s t
-  unfolding facetMatches
-  match-native t h f = f ∙ rw (← is-none R h)
-
-  module _ {p : Parts} {o : Option Authority} {t : Bytes} {q′ : Reading} (h : q ≡ Found p) (Q : Reads t o q′) where
-    pub host-no-other : q′ ≡ Malformed → false ≡ sameHost (webOrigin s) o
-    unfolding sameHost authorityIn
-    host-no-other k = rw (← is-none Q k, ← found R h .is)
-
-    pub host-both : {p′ : Parts} {r : Bool} → q′ ≡ Found p′ → r ≡ sameNoCase (part s 8 (p .end)) (part t 8 (p′ .end)) → r ≡ sameHost (webOrigin s) o
-    unfolding sameHost authorityIn
-    host-both k f = f ∙ rw (← found Q k .is, ← found R h .is)
-
-  module _ {p : Parts} {t : Bytes} {q′ : Reading} (h : q ≡ Found p) (Q : Reads t (webOrigin t) q′) where
-    pub match-no-other : q′ ≡ Malformed → false ≡ facetMatches s t
-    unfolding facetMatches sameOrigin authorityIn
-    match-no-other k = rw (← is-none Q k, ← found R h .is)
-
-    pub match-both : {p′ : Parts} {r : Bool} → q′ ≡ Found p′ → r ≡ sameAt s p t p′ → r ≡ facetMatches s t
-    unfolding facetMatches sameOrigin authorityIn sameAt
-    match-both k f = f ∙ rw (← found R h .is, ← found Q k .is, found-inside R h .port-is, found-inside Q k .port-is)

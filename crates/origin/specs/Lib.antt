@@ -1,3 +1,2 @@
 pub mod Origin
-pub mod Matching
 pub mod code

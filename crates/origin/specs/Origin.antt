@@ -6,7 +6,7 @@ use Prim.Native.Nat.{ℕ}
 use Prim.Native.Char.{code}
 use lib.ListN.{length, drop}
 use lib.Dec.{eqb, leb}
-use Rattle.ascii.specs.Ascii.{Bytes, if_then_else_, _>>=_, isNone, all, isEmpty, takeWhile, dropWhile, between, isDigit, isLetter, lower, same, beginsWith, beginsWithNoCase, text, number16}
+use Rattle.ascii.specs.Ascii.{Bytes, if_then_else_, _>>=_, isNone, all, isEmpty, takeWhile, dropWhile, between, isDigit, isLetter, lower, same, beginsWith, beginsWithNoCase, text, value, number16}
 use Rattle.hosts.specs.Host.{isHost, isLabelByte}
 
 -- `https://` is read in either ASCII case
@@ -24,6 +24,10 @@ pub record Authority : Type 0 where
 -- 1 to 65535 without leading zero
 unfoldable pub isPort : Bytes → Bool
 isPort p = not (isNone (number16 p)) && not (beginsWith (text "0") p)
+
+-- a port's digits by their value, an absent port being 443
+unfoldable pub effectivePort : Bytes → ℕ
+effectivePort p = if isEmpty p then 443 else value p
 
 unfoldable pub readPort : Bytes → Bytes → Option Authority
 readPort host s =

@@ -64,7 +64,7 @@ fn says(yes: bool, a: &[u8], b: &[u8]) {
 }
 
 fn pair(caller: &[u8], entry: &[u8]) {
-    says(origin::matches(caller, entry), caller, entry);
+    says(matching::matches(caller, entry), caller, entry);
 }
 
 pub fn ports() {
@@ -93,7 +93,7 @@ pub fn callers() {
 }
 
 fn target(caller: &[u8], appid: &[u8]) {
-    says(origin::same_host(caller, appid), caller, appid);
+    says(matching::same_host(caller, appid), caller, appid);
 }
 
 pub fn same_hosts() {

@@ -2,17 +2,16 @@
 use mathlib.Core.Path.{_≡_}
 use mathlib.Core.List.{[], _++_}
 use mathlib.Core.Option.{Option, none, some}
-use mathlib.Core.Bool.{Bool, _&&_, _||_}
+use mathlib.Core.Bool.{Bool, _||_}
 use Prim.Native.Nat.{ℕ, _+_, _-_, _≤_, _<_}
 use Prim.Native.Char.{code}
 use lib.ListN.{length, take, drop, getD}
-use lib.Dec.{eqb, leb}
-use Rattle.ascii.specs.Ascii.{Bytes, if_then_else_, isEmpty, lower, same, sameNoCase, beginsWith, text, number16}
+use lib.Dec.{leb}
+use Rattle.ascii.specs.Ascii.{Bytes, if_then_else_, isEmpty, lower, same, beginsWith, text, number16}
 use Rattle.ascii.specs.code.Numbers.{numberOf}
 use Rattle.ascii.specs.declared.decimals.Number.{Number}
 use Rattle.ascii.specs.declared.decimals.Number.the-variants.{Malformed as NoNumber}
-use Rattle.origin.specs.Origin.{Authority, shownPort}
-use Rattle.origin.specs.Matching.{effectivePort}
+use Rattle.origin.specs.Origin.{Authority, effectivePort, shownPort}
 use Rattle.origin.specs.declared.Parts.{Parts}
 use Rattle.origin.specs.declared.Reading.{Reading}
 use Rattle.origin.specs.declared.Reading.the-variants.{Found, Malformed}
@@ -43,10 +42,6 @@ pub data Within (s : Bytes) : Reading → Type 0 where
 pub record Reads (s : Bytes) (o : Option Authority) (r : Reading) : Type 0 where
   pub is : authorityIn s r ≡ o
   pub places : Within s r
-
--- hosts and ports at these places are equal
-unfoldable pub sameAt : Bytes → Parts → Bytes → Parts → Bool
-sameAt s p t q = sameNoCase (part s 8 (p .end)) (part t 8 (q .end)) && eqb (p .port) (q .port)
 
 -- ---- what single steps of the code answer
 

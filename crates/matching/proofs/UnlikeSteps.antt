@@ -14,9 +14,9 @@ use Rattle.ascii.specs.Ascii.{Bytes, if_then_else_, _>>=_, isEmpty, takeWhile, 
 use Rattle.ascii.proofs.Compare.{same-eq}
 use Rattle.ascii.proofs.OptionLaws.{Holds, holds}
 use Rattle.hosts.specs.Host.{isHost, isLabelByte}
 use Rattle.origin.specs.Origin.{Authority, beginsHttps, isPort, readPort, isHostByte, readHost, readHttps, webOrigin}
-use Rattle.origin.specs.Matching.{sameOrigin, facetMatches}
-use Rattle.origin.specs.code.Unlike.{isStop, mayEnd, apart, unlike}
+use Rattle.matching.specs.Matching.{sameOrigin, facetMatches}
+use Rattle.matching.specs.code.Unlike.{isStop, mayEnd, apart, unlike}
 
 -- ---- the tests of the code
 

@@ -1,10 +1,10 @@
--- `origin::are_unlike` meets its contract.
+-- `matching::are_unlike` meets its contract.
 use Prim.Native.Nat.{_-_}
 use lib.ListN.{length}
-use Rattle.origin.proofs.UnlikeSteps.{Walks}
-use Rattle.origin.proofs.Laws.{unlike-laws}
-use Rattle.origin.proofs.are_unlike.Statement.{statement}
-use Rattle.origin.proofs.are_unlike.Tie as tie
+use Rattle.matching.proofs.UnlikeSteps.{Walks}
+use Rattle.matching.proofs.Laws.{unlike-laws}
+use Rattle.matching.proofs.are_unlike.Statement.{statement}
+use Rattle.matching.proofs.are_unlike.Tie as tie
 
 abbrev Inv-loop : tie.InvT-loop
 Inv-loop x y i₀ i = Walks x y i

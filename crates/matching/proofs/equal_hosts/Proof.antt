@@ -1,7 +1,7 @@
--- `origin::equal_hosts` meets its contract.
-use Rattle.origin.proofs.Laws.{laws, matching}
-use Rattle.origin.proofs.equal_hosts.Statement.{statement}
-use Rattle.origin.proofs.equal_hosts.Tie as tie
+-- `matching::equal_hosts` meets its contract.
+use Rattle.matching.proofs.Laws.{laws, match-laws}
+use Rattle.matching.proofs.equal_hosts.Statement.{statement}
+use Rattle.matching.proofs.equal_hosts.Tie as tie
 
 pub equal-hosts-spec : {M : Type 1} → statement M
 equal-hosts-spec =
@@ -22,4 +22,4 @@ equal-hosts-spec =
     {- equal-no-case-requires -}
     (λ c κs. search laws)
     {- returns -}
-    (λ c. search matching))
+    (λ c. search match-laws))

@@ -1,7 +1,7 @@
--- `origin::are_apart` meets its contract.
-use Rattle.origin.proofs.Laws.{unlike-laws}
-use Rattle.origin.proofs.are_apart.Statement.{statement}
-use Rattle.origin.proofs.are_apart.Tie as tie
+-- `matching::are_apart` meets its contract.
+use Rattle.matching.proofs.Laws.{unlike-laws}
+use Rattle.matching.proofs.are_apart.Statement.{statement}
+use Rattle.matching.proofs.are_apart.Tie as tie
 
 pub are-apart-spec : {M : Type 1} → statement M
 are-apart-spec =

@@ -1,18 +1,13 @@
 -- When a caller matches the AppID or an entry (document 01, "Fetch record and decision", rules 3 and 4).
 use mathlib.Core.Bool.{Bool, _&&_}
 use mathlib.Core.Option.{Option}
-use Prim.Native.Nat.{ℕ}
 use lib.Dec.{eqb}
-use Rattle.ascii.specs.Ascii.{Bytes, if_then_else_, isNone, bothPass, isEmpty, same, sameNoCase, value}
-use Rattle.origin.specs.Origin.{Authority, webOrigin}
+use Rattle.ascii.specs.Ascii.{Bytes, if_then_else_, isNone, bothPass, same, sameNoCase}
+use Rattle.origin.specs.Origin.{Authority, effectivePort, webOrigin}
 
 -- rule 3: both have a host, and the two are equal, ports aside
 unfoldable pub sameHost : Option Authority → Option Authority → Bool
 sameHost = bothPass (λ a b. sameNoCase (a .host) (b .host))
-
--- a port's digits by their value, an absent port being 443
-unfoldable pub effectivePort : Bytes → ℕ
-effectivePort p = if isEmpty p then 443 else value p
 
 -- origins in the sense of RFC 6454: both are web origins, and their hosts and ports are equal
 unfoldable pub sameOrigin : Option Authority → Option Authority → Bool

@@ -1,0 +1,3 @@
+pub mod Compared
+pub mod UnlikeSteps
+pub mod Laws

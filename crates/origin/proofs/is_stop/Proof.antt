@@ -1,7 +1,0 @@
--- `origin::is_stop` meets its contract.
-use Rattle.origin.proofs.Laws.{unlike-laws}
-use Rattle.origin.proofs.is_stop.Statement.{statement}
-use Rattle.origin.proofs.is_stop.Tie as tie
-
-pub is-stop-spec : {M : Type 1} → statement M
-is-stop-spec = tie.close (tie.spec {- returns -} (λ c. search unlike-laws) {- returns-2 -} (λ c. search unlike-laws))
