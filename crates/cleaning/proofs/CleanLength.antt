@@ -8,7 +8,7 @@ use native.Mathlib.Omega.{arith}
 use lib.ListN.{length, length-append}
 use Rattle.ascii.specs.Ascii.{Bytes, if_then_else_, isNone, filterBy, text, prefixed, joinWith}
 use Rattle.origin.specs.Origin.{normalForm}
-use Rattle.origin.proofs.NormalForms.{normal-short}
+use Rattle.normal_forms.proofs.NormalForms.{normal-short}
 use Rattle.trusted_list.specs.TrustedList.{selected, entries}
 use Rattle.trusted_list.proofs.Bound.{stringsSize, idsSize, versionSize, listingSize, listSize, selected-fits}
 use Rattle.entries.specs.Causes.{cause, kept}

@@ -14,8 +14,8 @@ use borrow.Author.Tests.{le-leb, leb-true, leb-false, lt-ltb, le-ltb}
 use Rattle.ascii.specs.Ascii.{Bytes, if_then_else_, text, decimal}
 use Rattle.ascii.specs.code.Numbers.{Writes}
 use Rattle.ascii.specs.declared.decimals.Decimal.{Decimal}
-use Rattle.origin.specs.code.Parts.{Wrote}
-use Rattle.origin.proofs.Writings.{wrote-is, wrote-place, wrote-length, wrote-then}
+use Rattle.normal_forms.specs.code.Writing.{Wrote}
+use Rattle.normal_forms.proofs.Writings.{wrote-is, wrote-place, wrote-length, wrote-then}
 use Rattle.refusals.specs.declared.Refusal.{Refusal}
 use Rattle.refusals.specs.declared.Refusal.the-variants.{Full}
 use Rattle.trusted_list.specs.TrustedList.{entries, Accepted}

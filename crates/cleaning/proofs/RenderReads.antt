@@ -11,7 +11,7 @@ use borrow.Author.Tests.{ne-eqb}
 use Rattle.ascii.specs.Ascii.{Bytes, all, isDigit, text, prefixed, joinWith, decimal}
 use Rattle.ascii.proofs.NumberLaws.{digit-in}
 use Rattle.ascii.proofs.DecimalLaws.{decimal-numeral}
-use Rattle.origin.specs.code.Normals.{isPlainByte}
+use Rattle.normal_forms.specs.code.Normals.{isPlainByte}
 use Rattle.json_text.specs.Reader.{Reader, peek, countWhile}
 use Rattle.json_text.specs.Lexical.{isBlank}
 use Rattle.json.specs.Json.{Json, number, string, array, object, toItems, toMembers, items, readMember, readObject, readValue, readJson}

@@ -10,7 +10,7 @@ use borrow.Author.Tests.{eq-eqb}
 use Rattle.ascii.specs.Ascii.{Bytes, all, same, decimal}
 use Rattle.ascii.proofs.DecimalLaws.{number-decimal}
 use Rattle.origin.specs.Origin.{normalForm}
-use Rattle.origin.specs.code.Normals.{isPlainByte}
+use Rattle.normal_forms.specs.code.Normals.{isPlainByte}
 use Rattle.json.specs.Json.{number, string, toItems, toMembers}
 use Rattle.trusted_list.specs.TrustedList.{valuesOf, once, readNumber16, readVersion, strings, readIds, readListing, listings, readListings, readList, isWanted, select, readBody, selected, entries, Accepted}
 use Rattle.trusted_list.proofs.Acceptance.{Small, selected-small, accepted-selects, selects-accepted}

@@ -11,7 +11,7 @@ use lib.ListN.{length, take, length-append, length-take}
 use borrow.Author.Tests.{ne-eqb}
 use Rattle.ascii.specs.Ascii.{Bytes, if_then_else_, text, prefixed, joinWith}
 use Rattle.origin.specs.Origin.{normalForm}
-use Rattle.origin.proofs.NormalForms.{normal-short}
+use Rattle.normal_forms.proofs.NormalForms.{normal-short}
 use Rattle.json_text.specs.declared.Next.{Next}
 use Rattle.json_text.specs.declared.Next.the-variants.{At, Bad}
 use Rattle.trusted_list.specs.code.Entries.{firstEntry}

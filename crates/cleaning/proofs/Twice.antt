@@ -4,7 +4,7 @@ use mathlib.Core.List.{List, [], _∷_, map}
 use Prim.Native.Nat.{ℕ}
 use Rattle.ascii.specs.Ascii.{Bytes}
 use Rattle.origin.specs.Origin.{normalForm}
-use Rattle.origin.proofs.NormalForms.{normal-twice}
+use Rattle.normal_forms.proofs.NormalForms.{normal-twice}
 use Rattle.trusted_list.specs.TrustedList.{entries, Accepted}
 use Rattle.entries.specs.Causes.{kept}
 use Rattle.cleaning.specs.Clean.{render, cleanedList, cleanRefusal, clean}

@@ -9,8 +9,8 @@ use lib.ListN.{length, take, length-append}
 use borrow.Author.Tests.{eq-eqb, ne-eqb}
 use Rattle.ascii.specs.Ascii.{Bytes}
 use Rattle.origin.specs.Origin.{normalForm}
-use Rattle.origin.specs.code.Parts.{Wrote}
-use Rattle.origin.proofs.Writings.{nothing-wrote, wrote-place, wrote-length, wrote-then}
+use Rattle.normal_forms.specs.code.Writing.{Wrote}
+use Rattle.normal_forms.proofs.Writings.{nothing-wrote, wrote-place, wrote-length, wrote-then}
 use Rattle.json_text.specs.declared.Next.{Next}
 use Rattle.json_text.specs.declared.Next.the-variants.{At, Bad}
 use Rattle.trusted_list.specs.code.Entries.{firstEntry}

@@ -13,7 +13,7 @@ ghost use lib.ListN.{length};
 ghost use Rattle.entries.specs.code.Owner.{Owned};
 ghost use Rattle.entries.specs.code.Reading.{IdsThere, entriesAt};
 ghost use Rattle.origin.specs.Origin.{normalForm};
-ghost use Rattle.origin.specs.code.Parts.{Wrote};
+ghost use Rattle.normal_forms.specs.code.Writing.{Wrote};
 ghost use Rattle.ascii.specs.Ascii.{decimal};
 ghost use Rattle.cleaning.specs.Clean.{cleanedList, fitting, clean};
 ghost use Rattle.cleaning.specs.code.Meaning.{ListedAt, Prepares, names, opening, idText, idsText, IdWrote, listHead, Cleans};
@@ -52,7 +52,7 @@ fn id_length(first: bool, entry: &[u8]) -> usize
     requires { ⌜ length (now entry) ≤ 512 ⌝ }
     ensures { λ r. ⌜ r ≡ length (idText first (normalForm (now (entry .entry)))) ⌝ }
 {
-    let n = origin::normal::normal_length(entry);
+    let n = normal_forms::normal_length(entry);
     if first {
         return n + 2;
     }
@@ -94,9 +94,9 @@ fn write_opening(first: bool, out: &mut [u8], at: usize) -> usize
     ensures { λ r. ⌜ Wrote (opening first) at (now (out .entry)) (now (out .exit)) r ⌝ }
 {
     if first {
-        return origin::normal::write_bytes(b"\"", out, at);
+        return normal_forms::write_bytes(b"\"", out, at);
     }
-    origin::normal::write_bytes(b",\"", out, at)
+    normal_forms::write_bytes(b",\"", out, at)
 }
 
 // The id of an entry.
@@ -104,8 +104,8 @@ fn write_id(first: bool, entry: &[u8], out: &mut [u8], at: usize) -> usize
     ensures { λ r. ⌜ IdWrote first (now (entry .entry)) at (now (out .entry)) (now (out .exit)) r ⌝ }
 {
     let a = write_opening(first, out, at);
-    let b = origin::normal::write_normal(entry, out, a);
-    origin::normal::write_bytes(b"\"", out, b)
+    let b = normal_forms::write_normal(entry, out, a);
+    normal_forms::write_bytes(b"\"", out, b)
 }
 
 // The ids, from a place of the output on.
@@ -190,7 +190,7 @@ fn write_decimal(n: u16, out: &mut [u8], at: usize) -> usize
     let d = ascii::decimals::write_number(n);
     let k = d.len;
     let digits = d.digits;
-    origin::normal::write_bytes(&digits[0..k], out, at)
+    normal_forms::write_bytes(&digits[0..k], out, at)
 }
 
 // What stands before the ids.
@@ -198,11 +198,11 @@ fn write_head(major: u16, minor: u16, out: &mut [u8]) -> usize
     requires { ⌜ length (listHead major minor) ≤ length (now out) ⌝ }
     ensures { λ r. ⌜ Wrote (listHead major minor) 0 (now (out .entry)) (now (out .exit)) r ⌝ }
 {
-    let a = origin::normal::write_bytes(b"{\"trustedFacets\":[{\"version\":{\"major\":", out, 0);
+    let a = normal_forms::write_bytes(b"{\"trustedFacets\":[{\"version\":{\"major\":", out, 0);
     let b = write_decimal(major, out, a);
-    let c = origin::normal::write_bytes(b",\"minor\":", out, b);
+    let c = normal_forms::write_bytes(b",\"minor\":", out, b);
     let d = write_decimal(minor, out, c);
-    origin::normal::write_bytes(b"},\"ids\":[", out, d)
+    normal_forms::write_bytes(b"},\"ids\":[", out, d)
 }
 
 // Refusal 15 before any byte is written, or the list.
@@ -223,7 +223,7 @@ fn write_list(
     if has_room(appid, owner, major, minor, body, ids, table, room) {
         let a = write_head(major, minor, out);
         let b = write_ids(appid, owner, body, ids, table, out, a);
-        let n = origin::normal::write_bytes(b"]}]}", out, b);
+        let n = normal_forms::write_bytes(b"]}]}", out, b);
         return Output::Length(n);
     }
     Output::Refused(Refusal::Full)

@@ -8,8 +8,8 @@ use native.Mathlib.Omega.{arith}
 use Rattle.ascii.specs.Ascii.{Bytes, same, sameNoCase, lower}
 use Rattle.ascii.proofs.Compare.{same-eq}
 use Rattle.origin.specs.Origin.{Authority, webOrigin, normalForm}
-use Rattle.origin.specs.code.Normals.{normalAuthority}
-use Rattle.origin.proofs.NormalForms.{own-normal, lower-twice, origin-normal, host-normal, port-normal}
+use Rattle.normal_forms.specs.code.Normals.{normalAuthority}
+use Rattle.normal_forms.proofs.NormalForms.{own-normal, lower-twice, origin-normal, host-normal, port-normal}
 use Rattle.matching.specs.Matching.{sameOrigin, facetMatches}
 use Rattle.decision.specs.Decide.{firstMatch}
 

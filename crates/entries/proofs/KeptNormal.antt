@@ -11,10 +11,10 @@ use Rattle.ascii.specs.Ascii.{Bytes, all, lower, sameNoCase}
 use Rattle.ascii.proofs.ListLaws.{all-mapped}
 use Rattle.suffix.proofs.Case.{private-label}
 use Rattle.origin.specs.Origin.{Authority, webOrigin, normalForm}
-use Rattle.origin.specs.code.Normals.{normalAuthority, isPlainByte}
 use Rattle.origin.proofs.Origins.{web-begins}
-use Rattle.origin.proofs.NormalForms.{own-normal, normal-short, lower-twice, origin-normal, host-normal, facet-normal}
-use Rattle.origin.proofs.PlainBytes.{facet-plain}
+use Rattle.normal_forms.specs.code.Normals.{normalAuthority, isPlainByte}
+use Rattle.normal_forms.proofs.NormalForms.{own-normal, normal-short, lower-twice, origin-normal, host-normal, facet-normal}
+use Rattle.normal_forms.proofs.PlainBytes.{facet-plain}
 use Rattle.entries.specs.Causes.{labelsAgree, isOtherLabel, kept}
 use Rattle.entries.proofs.KeptTests.{isKept, kept-passes, passes-kept, kept-each, kept-id}
 

@@ -11,8 +11,9 @@ use lib.ListN.{length, take, drop}
 use lib.Seq.{take-append-seam}
 use borrow.Author.Tests.{lt-ltb, le-ltb, le-leb, lt-leb, leb-true, leb-false}
 use Rattle.ascii.specs.Ascii.{Bytes, if_then_else_}
-use Rattle.origin.specs.code.Parts.{part, writtenAt, Wrote}
-use Rattle.origin.proofs.Writings.{wrote-is, wrote-length}
+use Rattle.origin.specs.code.Parts.{part}
+use Rattle.normal_forms.specs.code.Writing.{writtenAt, Wrote}
+use Rattle.normal_forms.proofs.Writings.{wrote-is, wrote-length}
 use Rattle.json_text.specs.Reader.{got}
 use Rattle.json_text.specs.Lexical.{readString}
 use Rattle.json_text.specs.code.Places.{readAt, fit, held, content, push, Puts, PutsRead, is-on, is-stuck}

@@ -141,7 +141,7 @@ fn decode_entry(out: &mut [u8; 512], body: &[u8], at: usize) -> Progress
     };
     let from = at + 1;
     let entry = &body[from..q];
-    origin::normal::write_bytes(entry, out, 0);
+    normal_forms::write_bytes(entry, out, 0);
     Progress::On(entry.len(), q + 1)
 }
 

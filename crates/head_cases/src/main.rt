@@ -295,8 +295,8 @@ fn show_long(label: &[u8], n: usize)
     requires { ⌜ (23 ≤ n) × (n ≤ 8193) ⌝ }
 {
     let mut head = [b'v'; 8193];
-    origin::normal::write_bytes(b"HTTP/1.1 200 OK\r\nX:", &mut head, 0);
-    origin::normal::write_bytes(b"\r\n\r\n", &mut head, n - 4);
+    normal_forms::write_bytes(b"HTTP/1.1 200 OK\r\nX:", &mut head, 0);
+    normal_forms::write_bytes(b"\r\n\r\n", &mut head, n - 4);
     show(label, &head[0..n]);
 }
 

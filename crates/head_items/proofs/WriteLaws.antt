@@ -10,8 +10,8 @@ use lib.Dec.{leb}
 use borrow.Author.Needs.{needs}
 use borrow.Author.Tests.{le-leb, lt-leb, leb-true}
 use Rattle.ascii.specs.Ascii.{Bytes, writtenOver}
-use Rattle.origin.specs.code.Parts.{Wrote}
-use Rattle.origin.proofs.Writings.{wrote-is}
+use Rattle.normal_forms.specs.code.Writing.{Wrote}
+use Rattle.normal_forms.proofs.Writings.{wrote-is}
 use Rattle.refusals.specs.declared.Refusal.the-variants.{Full, BadHead}
 use Rattle.head_items.specs.HeadItem.{twoBytes, seen, itemOf, locationText, startFits, refused, written, fitting, itemFor}
 use Rattle.response_head.specs.ResponseHead.{Head, redirect, answer}

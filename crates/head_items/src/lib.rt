@@ -44,7 +44,7 @@ fn write_answer(status: u16, typed: bool, item: &mut [u8]) -> Lengths
     }
     let n = status as usize;
     let bytes = [2, high(n), low(n), seen(typed)];
-    origin::normal::write_bytes(&bytes, item, 0);
+    normal_forms::write_bytes(&bytes, item, 0);
     Lengths::Written(4, 0)
 }
 
@@ -93,8 +93,8 @@ fn put_redirect(
 {
     let size = location.len();
     let bytes = redirect_item(status, authorized, start, size);
-    origin::normal::write_bytes(&bytes, item, 0);
-    origin::normal::write_bytes(location, text, 0);
+    normal_forms::write_bytes(&bytes, item, 0);
+    normal_forms::write_bytes(location, text, 0);
     Lengths::Written(8, size)
 }
 

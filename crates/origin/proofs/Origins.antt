@@ -10,7 +10,6 @@ use lib.Dec.{eqb, leb}
 use borrow.Author.Tests.{eqb-true, leb-true}
 use Rattle.ascii.specs.Ascii.{Bytes, if_then_else_, _>>=_, _when_, isNone, isEmpty, all, takeWhile, dropWhile, between, isDigit, isUpper, same, lowerByte, lower, beginsWith, beginsWithNoCase, text, value, number16}
 use Rattle.ascii.proofs.Compare.{length-lower}
-pub use Rattle.ascii.proofs.Compare.{same-eq}
 use Rattle.ascii.proofs.OptionLaws.{Holds, holds}
 use Rattle.ascii.proofs.Scan.{while-all, while-rest, while-length}
 use Rattle.hosts.specs.Host.{isHost}

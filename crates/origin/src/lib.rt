@@ -1,6 +1,4 @@
-// Identifiers: web origins, native identities, facets, HTTPS URLs, normal forms.
-pub mod normal;
-
+// Identifiers: web origins, native identities, facets, HTTPS URLs.
 use ascii::decimals::Number;
 ghost use mathlib.Core.Option.{some};
 ghost use mathlib.Core.Path.{_≡_};

@@ -17,7 +17,7 @@ fn form(s: &[u8]) {
     let mut out = [0u8; 64];
     put(s);
     put(b" = ");
-    let n = origin::normal::write_normal(s, &mut out, 0);
+    let n = normal_forms::write_normal(s, &mut out, 0);
     put_first(&out, n);
     put(b"\n");
 }
@@ -37,7 +37,7 @@ pub fn normal_forms() {
 // Eleven bytes at a place of twelve: the twelve afterwards, and the place behind.
 fn room(at: usize) {
     let mut out = [46u8; 12];
-    let n = origin::normal::write_normal(b"https://A.B/", &mut out, at);
+    let n = normal_forms::write_normal(b"https://A.B/", &mut out, at);
     put(&out);
     put(b" ");
     io::print_decimal(STDOUT_FILENO, n as u64);

@@ -119,7 +119,7 @@ fn tail_bytes() {
 fn long_hosts() {
     let mut s = io::buffer();
     fill(&mut s);
-    origin::normal::write_bytes(b"https://", &mut s, 0);
+    normal_forms::write_bytes(b"https://", &mut s, 0);
     first(b"label of 63", &s, 71);
     first(b"label of 64", &s, 72);
     s[71] = 46;
@@ -132,11 +132,11 @@ fn long_hosts() {
 fn longest_origin() {
     let mut s = io::buffer();
     fill(&mut s);
-    origin::normal::write_bytes(b"https://", &mut s, 0);
+    normal_forms::write_bytes(b"https://", &mut s, 0);
     s[71] = 46;
     s[135] = 46;
     s[199] = 46;
-    origin::normal::write_bytes(b":65535//", &mut s, 261);
+    normal_forms::write_bytes(b":65535//", &mut s, 261);
     first(b"origin of 268", &s, 268);
     first(b"origin of 269", &s, 269);
 }
@@ -144,7 +144,7 @@ fn longest_origin() {
 fn long_bundles() {
     let mut s = io::buffer();
     fill(&mut s);
-    origin::normal::write_bytes(b"ios:bundle-id:", &mut s, 0);
+    normal_forms::write_bytes(b"ios:bundle-id:", &mut s, 0);
     first(b"bundle name of 255", &s, 269);
     first(b"bundle name of 256", &s, 270);
 }
@@ -152,7 +152,7 @@ fn long_bundles() {
 fn long_urls() {
     let mut s = io::buffer();
     fill(&mut s);
-    origin::normal::write_bytes(b"https://a.b/", &mut s, 0);
+    normal_forms::write_bytes(b"https://a.b/", &mut s, 0);
     first(b"URL of 2048", &s, 2048);
     first(b"URL of 2049", &s, 2049);
 }

@@ -8,7 +8,7 @@ use Prim.Native.Char.{code}
 use lib.ListN.{length, drop}
 use Rattle.ascii.specs.Ascii.{Bytes, text, prefixed, joinWith, decimal, writtenOver}
 use Rattle.origin.specs.Origin.{normalForm}
-use Rattle.origin.specs.code.Parts.{Wrote}
+use Rattle.normal_forms.specs.code.Writing.{Wrote}
 use Rattle.entries.specs.Causes.{kept}
 use Rattle.entries.specs.code.Owner.{Owned}
 use Rattle.entries.specs.code.Reading.{IdsThere, entriesAt}

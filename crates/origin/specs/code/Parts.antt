@@ -1,17 +1,16 @@
 -- What the code answers: where the parts of an identifier stand in it.
 use mathlib.Core.Path.{_≡_}
-use mathlib.Core.List.{[], _++_}
+use mathlib.Core.List.{[]}
 use mathlib.Core.Option.{Option, none, some}
 use mathlib.Core.Bool.{Bool, _||_}
 use Prim.Native.Nat.{ℕ, _+_, _-_, _≤_, _<_}
 use Prim.Native.Char.{code}
 use lib.ListN.{length, take, drop, getD}
-use lib.Dec.{leb}
-use Rattle.ascii.specs.Ascii.{Bytes, if_then_else_, isEmpty, lower, same, beginsWith, text, number16}
+use Rattle.ascii.specs.Ascii.{Bytes, if_then_else_, isEmpty, same, beginsWith, text, number16}
 use Rattle.ascii.specs.code.Numbers.{numberOf}
 use Rattle.ascii.specs.declared.decimals.Number.{Number}
 use Rattle.ascii.specs.declared.decimals.Number.the-variants.{Malformed as NoNumber}
-use Rattle.origin.specs.Origin.{Authority, effectivePort, shownPort}
+use Rattle.origin.specs.Origin.{Authority, effectivePort}
 use Rattle.origin.specs.declared.Parts.{Parts}
 use Rattle.origin.specs.declared.Reading.{Reading}
 use Rattle.origin.specs.declared.Reading.the-variants.{Found, Malformed}
@@ -65,33 +64,3 @@ isEnd t = isEmpty t || same t (text "/")
 -- `/` or `?`
 unfoldable pub beginsTail : Bytes → Bool
 beginsTail t = beginsWith (text "/") t || beginsWith (text "?") t
-
--- the port is absent or 443
-unfoldable pub isHidden : Bytes → Bool
-isHidden p = isEmpty p || same p (text "443")
-
--- a host, and a colon and a port or nothing, that end at these places
-pub record Placed (s : Bytes) (end tail : ℕ) : Type 0 where
-  pub low : 8 ≤ end
-  pub middle : end ≤ tail
-  pub high : tail ≤ length s
-  pub colon : end < tail → getD s end 0 ≡ code ":"
-
--- the normal form of a web origin by these places
-unfoldable pub webAt : Bytes → ℕ → ℕ → Bytes
-webAt s end tail = text "https://" ++ lower (part s 8 end) ++ shownPort (part s (end + 1) tail)
-
--- ---- writing
-
--- x written into s at a place, the bytes before and behind unchanged; s itself where there is no room
-unfoldable pub writtenAt : Bytes → ℕ → Bytes → Bytes
-writtenAt s at x = if leb (at + length x) (length s) then take at s ++ x ++ drop (at + length x) s else s
-
--- the place behind x, or the same place where there is no room
-unfoldable pub behind : Bytes → ℕ → Bytes → ℕ
-behind s at x = if leb (at + length x) (length s) then at + length x else at
-
--- x is written, and r is the place behind it
-pub record Wrote (x : Bytes) (at : ℕ) (before after : Bytes) (r : ℕ) : Type 0 where
-  pub is : after ≡ writtenAt before at x
-  pub place : r ≡ behind before at x

@@ -1,11 +1,13 @@
 // Normal forms, and bytes written into a lent slice.
-use crate::Reading;
+use origin::Reading;
 ghost use mathlib.Core.Path.{_≡_};
 ghost use Prim.Native.Nat.{_+_};
 ghost use lib.ListN.{length};
 ghost use Rattle.ascii.specs.Ascii.{lower};
 ghost use Rattle.origin.specs.Origin.{shownPort, normalForm};
-ghost use Rattle.origin.specs.code.Parts.{part, isHidden, webAt, Placed, Wrote};
+ghost use Rattle.origin.specs.code.Parts.{part};
+ghost use Rattle.normal_forms.specs.code.Normals.{isHidden, webAt, Placed};
+ghost use Rattle.normal_forms.specs.code.Writing.{Wrote};
 
 // The bytes x written into out at a place, where there is room for them all.
 // Returns the place behind them, or the same place where there is no room.
@@ -69,7 +71,7 @@ fn web_length(s: &[u8], end: usize, tail: usize) -> usize
 pub fn normal_length(s: &[u8]) -> usize
     ensures { λ r. ⌜ r ≡ length (normalForm (now (s .entry))) ⌝ }
 {
-    let Reading::Found(p) = crate::web_origin(s) else {
+    let Reading::Found(p) = origin::web_origin(s) else {
         return s.len();
     };
     let end = p.end;
@@ -109,7 +111,7 @@ fn write_web(s: &[u8], end: usize, tail: usize, out: &mut [u8], at: usize) -> us
 pub fn write_normal(s: &[u8], out: &mut [u8], at: usize) -> usize
     ensures { λ r. ⌜ Wrote (normalForm (now (s .entry))) at (now (out .entry)) (now (out .exit)) r ⌝ }
 {
-    let Reading::Found(p) = crate::web_origin(s) else {
+    let Reading::Found(p) = origin::web_origin(s) else {
         return write_bytes(s, out, at);
     };
     let end = p.end;

@@ -8,13 +8,12 @@ use native.Mathlib.Omega.{arith}
 use lib.ListN.{length, length-append}
 use borrow.Author.Tests.{le-leb}
 use Rattle.ascii.specs.Ascii.{Bytes, if_then_else_, isEmpty, all, takeWhile, dropWhile, isDigit, isUpper, isLetter, same, lowerByte, lower, beginsWith, beginsWithNoCase, text, value, valueFrom}
-use Rattle.ascii.proofs.Compare.{length-lower}
+use Rattle.ascii.proofs.Compare.{length-lower, same-eq}
 use Rattle.hosts.specs.Host.{isHost, isLabelByte}
 use Rattle.hosts.proofs.Case.{is-byte, is-label-byte, lower-lower, map-map-eq, all-lower, is-host}
 use Rattle.origin.specs.Origin.{Authority, beginsHttps, isPort, effectivePort, readPort, isHostByte, readHost, readHttps, webOrigin, isNative, isFacet, shownPort, normalWeb, normalOf, normalForm}
-use Rattle.origin.specs.code.Parts.{isHidden}
-use Rattle.origin.specs.code.Normals.{normalAuthority}
-use Rattle.origin.proofs.Origins.{origin-read, same-eq, port-digits, native-no-web, facet-short-enough}
+use Rattle.origin.proofs.Origins.{origin-read, port-digits, native-no-web, facet-short-enough}
+use Rattle.normal_forms.specs.code.Normals.{isHidden, normalAuthority}
 
 -- ---- the two kinds
 

@@ -1,7 +1,7 @@
--- `origin::is_hidden` meets its contract.
-use Rattle.origin.proofs.Writings.{write-laws}
-use Rattle.origin.proofs.normal.is_hidden.Statement.{statement}
-use Rattle.origin.proofs.normal.is_hidden.Tie as tie
+-- `normal_forms::is_hidden` meets its contract.
+use Rattle.normal_forms.proofs.Writings.{write-laws}
+use Rattle.normal_forms.proofs.is_hidden.Statement.{statement}
+use Rattle.normal_forms.proofs.is_hidden.Tie as tie
 
 pub is-hidden-spec : {M : Type 1} → statement M
 is-hidden-spec =

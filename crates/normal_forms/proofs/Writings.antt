@@ -15,12 +15,14 @@ use Rattle.ascii.specs.Ascii.{Bytes, isEmpty, lowerByte, lower, same, text}
 use Rattle.ascii.proofs.ListLaws.{filled}
 use Rattle.ascii.proofs.Compare.{length-lower}
 use Rattle.hosts.proofs.Places.{getD-lower}
 use Rattle.origin.specs.Origin.{Authority, webOrigin, shownPort, normalWeb, normalOf, normalForm}
-use Rattle.origin.specs.code.Parts.{part, authorityIn, Reads, isHidden, Placed, webAt, writtenAt, behind, Wrote}
+use Rattle.origin.specs.code.Parts.{part, authorityIn, Reads}
 use Rattle.origin.specs.declared.Parts.{Parts}
 use Rattle.origin.specs.declared.Reading.{Reading}
 use Rattle.origin.specs.declared.Reading.the-variants.{Found, Malformed}
 use Rattle.origin.proofs.Readings.{found, is-none, found-low, found-middle, found-colon, found-tail}
+use Rattle.normal_forms.specs.code.Normals.{isHidden, webAt, Placed}
+use Rattle.normal_forms.specs.code.Writing.{writtenAt, behind, Wrote}
 
 -- ---- a loop that writes
 

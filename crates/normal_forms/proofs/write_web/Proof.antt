@@ -1,7 +1,7 @@
--- `origin::write_web` meets its contract.
-use Rattle.origin.proofs.Writings.{write-laws}
-use Rattle.origin.proofs.normal.write_web.Statement.{statement}
-use Rattle.origin.proofs.normal.write_web.Tie as tie
+-- `normal_forms::write_web` meets its contract.
+use Rattle.normal_forms.proofs.Writings.{write-laws}
+use Rattle.normal_forms.proofs.write_web.Statement.{statement}
+use Rattle.normal_forms.proofs.write_web.Tie as tie
 
 pub write-web-spec : {M : Type 1} → statement M
 write-web-spec =

@@ -1,20 +1,19 @@
--- `origin::write_lower` meets its contract.
+-- `normal_forms::write_bytes` meets its contract.
 use Prim.Native.Nat.{_-_}
 use lib.ListN.{length}
-use Rattle.ascii.specs.Ascii.{lower}
-use Rattle.origin.proofs.Writings.{Pasted}
-use Rattle.origin.proofs.Writings.{write-laws}
-use Rattle.origin.proofs.normal.write_lower.Statement.{statement}
-use Rattle.origin.proofs.normal.write_lower.Tie as tie
+use Rattle.normal_forms.proofs.Writings.{Pasted}
+use Rattle.normal_forms.proofs.Writings.{write-laws}
+use Rattle.normal_forms.proofs.write_bytes.Statement.{statement}
+use Rattle.normal_forms.proofs.write_bytes.Tie as tie
 
 abbrev Inv-loop : tie.InvT-loop
-Inv-loop x out₀ at n i₀ out i = Pasted (lower x) (length x) at out₀ out i
+Inv-loop x out₀ at n i₀ out i = Pasted x (length x) at out₀ out i
 
 abbrev μ-loop : tie.MeasureT-loop
 μ-loop x out₀ at n i₀ out i = length x - i
 
-pub write-lower-spec : {M : Type 1} → statement M
-write-lower-spec =
+pub write-bytes-spec : {M : Type 1} → statement M
+write-bytes-spec =
     tie.close
     (tie.spec
     Inv-loop
@@ -27,10 +26,8 @@ write-lower-spec =
     (λ c. search write-laws)
     {- loop-holds -}
     (λ c. search write-laws)
-    {- shared-slice-read-lower-byte -}
+    {- shared-slice-read-out -}
     (λ c. search write-laws)
-    {- lower-byte-requires -}
-    (λ c κs. search write-laws)
     {- add-out -}
     (λ c. search write-laws)
     {- slice-write-out -}

@@ -1,7 +1,7 @@
--- `origin::write_normal` meets its contract.
-use Rattle.origin.proofs.Writings.{write-laws}
-use Rattle.origin.proofs.normal.write_normal.Statement.{statement}
-use Rattle.origin.proofs.normal.write_normal.Tie as tie
+-- `normal_forms::write_normal` meets its contract.
+use Rattle.normal_forms.proofs.Writings.{write-laws}
+use Rattle.normal_forms.proofs.write_normal.Statement.{statement}
+use Rattle.normal_forms.proofs.write_normal.Tie as tie
 
 pub write-normal-spec : {M : Type 1} → statement M
 write-normal-spec =

@@ -12,10 +12,10 @@ use Rattle.ascii.specs.Ascii.{Bytes, if_then_else_, isEmpty, all, between, isDi
 use Rattle.ascii.proofs.Bytes.{implies, each, passes, digit-small, letter-small}
 use Rattle.ascii.proofs.ListLaws.{all-append, all-weaker}
 use Rattle.hosts.specs.Host.{isLabelByte}
 use Rattle.origin.specs.Origin.{Authority, androidPrefix, iosPrefix, isPort, isHostByte, webOrigin, isKeyHashByte, isAndroid, isIos, isNative, isFacet, shownPort, normalWeb, normalForm}
-use Rattle.origin.specs.code.Normals.{isPlainByte}
 use Rattle.origin.proofs.Origins.{ReadOf, origin-read, port-digits, begins-split, facet-native-else}
-use Rattle.origin.proofs.NormalForms.{own-normal, web-normal, lower-bytes}
+use Rattle.normal_forms.specs.code.Normals.{isPlainByte}
+use Rattle.normal_forms.proofs.NormalForms.{own-normal, web-normal, lower-bytes}
 
 -- ---- one byte
 

@@ -1,7 +1,7 @@
--- `origin::write_port` meets its contract.
-use Rattle.origin.proofs.Writings.{write-laws}
-use Rattle.origin.proofs.normal.write_port.Statement.{statement}
-use Rattle.origin.proofs.normal.write_port.Tie as tie
+-- `normal_forms::write_port` meets its contract.
+use Rattle.normal_forms.proofs.Writings.{write-laws}
+use Rattle.normal_forms.proofs.write_port.Statement.{statement}
+use Rattle.normal_forms.proofs.write_port.Tie as tie
 
 pub write-port-spec : {M : Type 1} → statement M
 write-port-spec =

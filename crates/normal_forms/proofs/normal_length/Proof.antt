@@ -1,7 +1,7 @@
--- `origin::normal_length` meets its contract.
-use Rattle.origin.proofs.Writings.{write-laws}
-use Rattle.origin.proofs.normal.normal_length.Statement.{statement}
-use Rattle.origin.proofs.normal.normal_length.Tie as tie
+-- `normal_forms::normal_length` meets its contract.
+use Rattle.normal_forms.proofs.Writings.{write-laws}
+use Rattle.normal_forms.proofs.normal_length.Statement.{statement}
+use Rattle.normal_forms.proofs.normal_length.Tie as tie
 
 pub normal-length-spec : {M : Type 1} → statement M
 normal-length-spec =

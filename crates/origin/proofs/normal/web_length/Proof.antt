@@ -1,7 +1,0 @@
--- `origin::web_length` meets its contract.
-use Rattle.origin.proofs.Writings.{write-laws}
-use Rattle.origin.proofs.normal.web_length.Statement.{statement}
-use Rattle.origin.proofs.normal.web_length.Tie as tie
-
-pub web-length-spec : {M : Type 1} → statement M
-web-length-spec = tie.close (tie.spec {- is-hidden-requires -} (λ c κs. search write-laws) {- returns -} (λ c. search write-laws) {- returns-2 -} (λ c. search write-laws))
