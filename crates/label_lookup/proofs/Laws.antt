@@ -4,7 +4,6 @@ use Rattle.hosts.proofs.Shapes.{host-told}
 use Rattle.suffix.proofs.Lines.{is-told, host-yes, host-no, wild-fits, wild-long, wild-bad, wild-no, wild-yes, wild-less, exception-bad, exception-one, exception-yes, exception-no, rule-is-star, wild-in, rule-is-wild, exception-in, rule-is-exception, rule-is-none, line-empty, line-comment, line-rule}
 
 pub ruleset laws = (
-  host-told,
   is-told,
   host-yes,
   host-no,
@@ -25,4 +24,7 @@ pub ruleset laws = (
 )
 
 -- of `wild_rule`
-pub ruleset wild-laws = (host-told, wild-fits, wild-long, wild-bad, wild-no, wild-yes, wild-less, needs)
+pub ruleset wild-laws = (wild-fits, wild-long, wild-bad, wild-no, wild-yes, wild-less, needs)
+
+-- of `is_host`
+pub ruleset host-laws = (host-told, needs)

@@ -48,6 +48,14 @@ pub enum Owner {
     Label(usize, Deeper),
 }
 
+// 1 to 253 bytes of labels joined by dots, by the class table, which is lent here and below.
+fn is_host(classes: &[u8; 256], w: &[u8]) -> bool
+    requires { ⌜ Classifies (now classes) ⌝ }
+    ensures { λ r. ⌜ r ≡ isHost (now (w .entry)) ⌝ }
+{
+    hosts::is_host_by(classes, w)
+}
+
 // The rule w, a host.
 fn host_rule(host: &[u8], w: &[u8]) -> Best
     requires { ⌜ isHost (now w) ≡ true ⌝ }
@@ -67,7 +75,7 @@ fn wild_rule(classes: &[u8; 256], host: &[u8], v: &[u8]) -> Best
     if 251 < v.len() {
         return Best::Bad;
     }
-    if hosts::is_host_by(classes, v) {
+    if is_host(classes, v) {
         if hosts::ends_at_label(host, v) {
             if v.len() < host.len() {
                 return Best::Sizes(0, hosts::label_count(v) + 1);
@@ -83,7 +91,7 @@ fn exception_rule(classes: &[u8; 256], host: &[u8], v: &[u8]) -> Best
     requires { ⌜ Classifies (now classes) ⌝ }
     ensures { λ r. ⌜ r ≡ bestOf (labels (now (host .entry))) (oneRule (readRule (text "!" ++ now (v .entry)))) ⌝ }
 {
-    if hosts::is_host_by(classes, v) {
+    if is_host(classes, v) {
         let n = hosts::label_count(v);
         if n < 2 {
             return Best::Bad;
@@ -101,7 +109,7 @@ fn rule_best(classes: &[u8; 256], host: &[u8], w: &[u8]) -> Best
     requires { ⌜ Classifies (now classes) ⌝ }
     ensures { λ r. ⌜ r ≡ bestOf (labels (now (host .entry))) (oneRule (readRule (now (w .entry)))) ⌝ }
 {
-    if hosts::is_host_by(classes, w) {
+    if is_host(classes, w) {
         return host_rule(host, w);
     }
     if ascii::equal(w, b"*") {

@@ -1,4 +1,4 @@
--- `label_lookup::exception_rule` meets its contract. Assumes nothing.
+-- `label_lookup::exception_rule` meets its contract.
 use Rattle.label_lookup.proofs.Laws.{laws}
 use Rattle.label_lookup.proofs.exception_rule.Statement.{statement}
 use Rattle.label_lookup.proofs.exception_rule.Tie as tie
@@ -7,7 +7,7 @@ pub exception-rule-spec : {M : Type 1} → statement M
 exception-rule-spec =
     tie.close
     (tie.spec
-    {- is-host-by-requires -}
+    {- is-host-requires -}
     (λ c κs. search laws)
     {- label-count-requires -}
     (λ c κs. search laws)

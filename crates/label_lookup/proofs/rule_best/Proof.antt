@@ -1,4 +1,4 @@
--- `label_lookup::rule_best` meets its contract. Assumes nothing.
+-- `label_lookup::rule_best` meets its contract.
 use Rattle.label_lookup.proofs.Laws.{laws}
 use Rattle.label_lookup.proofs.rule_best.Statement.{statement}
 use Rattle.label_lookup.proofs.rule_best.Tie as tie
@@ -7,7 +7,7 @@ pub rule-best-spec : {M : Type 1} → statement M
 rule-best-spec =
     tie.close
     (tie.spec
-    {- is-host-by-requires -}
+    {- is-host-requires -}
     (λ c κs. search laws)
     {- host-rule-requires -}
     (λ c κs. search laws)

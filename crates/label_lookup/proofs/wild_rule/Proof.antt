@@ -9,7 +9,7 @@ wild-rule-spec =
     (tie.spec
     {- returns -}
     (λ c. search wild-laws)
-    {- is-host-by-requires -}
+    {- is-host-requires -}
     (λ c κs. search wild-laws)
     {- ends-at-label-requires -}
     (λ c κs. search wild-laws)
