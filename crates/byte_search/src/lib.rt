@@ -1,4 +1,4 @@
-// The first byte of a range, from a place on.
+// The first byte whose value lies in a range, from a place on.
 ghost use mathlib.Core.Path.{_≡_};
 ghost use Prim.Native.Nat.{_+_, _≤_, min};
 ghost use lib.ListN.{length, drop};
@@ -58,7 +58,7 @@ pub fn soon_in(s: &[u8], from: usize, lo: u8, hi: u8) -> usize
     i
 }
 
-// The same in blocks of 64 bytes while there are so many. The first byte alone before a block: many comments are empty.
+// The same in blocks of 64 bytes while there are so many. The first byte alone before a block: it is often the one that is sought.
 pub fn first_in(s: &[u8], from: usize, lo: u8, hi: u8) -> usize
     ensures { λ r. ⌜ r ≡ from + length (takeWhile (outside lo hi) (drop from (now (s .entry)))) ⌝ }
 {

@@ -21,7 +21,8 @@ use Rattle.suffix.specs.declared.Best.the-variants.{Bad}
 use Rattle.label_lookup.specs.declared.Depths.{Depths}
 use Rattle.label_lookup.specs.declared.Depths.the-variants.{Wrong, Found}
 use Rattle.hosts.proofs.Ends.{true-false}
-use Rattle.suffix.proofs.Lines.{wild-in, exception-in, wild-fits, host-yes, host-no, wild-no, wild-yes, wild-less, exception-yes, exception-no, rule-is-star, rule-is-wild, rule-is-exception, rule-wild-long, rule-exception-one, begins-is, rest-whole, line-empty, line-comment, line-rule}
+use Rattle.hosts.proofs.Places.{rest-whole}
+use Rattle.suffix.proofs.Lines.{wild-in, exception-in, wild-fits, host-yes, host-no, wild-no, wild-yes, wild-less, exception-yes, exception-no, rule-is-star, rule-is-wild, rule-is-exception, rule-wild-long, rule-exception-one, begins-is, line-empty, line-comment, line-rule}
 use Rattle.suffix.proofs.Answers.{bad-table}
 use Rattle.suffix.proofs.Passes.{Pass, pass-starts, pass-ends, pass-bad, pass-more}
 use Rattle.label_lookup.proofs.LookLaws.{to-best}

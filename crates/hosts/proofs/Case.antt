@@ -4,10 +4,11 @@ use mathlib.Core.List.{List, [], _∷_, _++_, map, map-append}
 use mathlib.Core.Bool.{Bool, true, false, _&&_, _||_, and-eq-true-iff}
 use Prim.Native.Nat.{ℕ, zero, suc, _+_, _≤_, _<_}
 use native.Mathlib.Omega.{arith}
-use lib.ListN.{length, take, drop, length-map}
+use lib.ListN.{take, drop, length-map}
 use lib.Dec.{eqb, leb}
 use borrow.Author.Tests.{leb-true, le-leb, lt-leb, ne-eqb}
 use Rattle.ascii.specs.Ascii.{Bytes, if_then_else_, all, lastOf, joinHead, splitAt, prefixed, joinWith, isDigit, isUpper, isLetter, lowerByte, lower, same, text}
+use Rattle.ascii.proofs.Compare.{length-lower}
 use Rattle.hosts.specs.Host.{labels, isLabelByte, isShaped, isLabel, isHost, isAddress}
 
 -- ---- one byte
@@ -104,10 +105,6 @@ take-one (b ∷ s) = refl
 last-one : (s : Bytes) → lastOf 1 (lower s) ≡ lower (lastOf 1 s)
 unfolding lower
 last-one s = last-map lowerByte 1 s
-
-pub length-lower : (s : Bytes) → length (lower s) ≡ length s
-unfolding lower
-length-lower s = length-map s lowerByte
 
 pub all-lower : (p : ℕ → Bool) → ((b : ℕ) → p (lowerByte b) ≡ p b) → (s : Bytes) → all p (lower s) ≡ all p s
 unfolding lower

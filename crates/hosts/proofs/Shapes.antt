@@ -35,10 +35,10 @@ label-class table C b = go (ltb b 256) refl
     go true e = let h = ltb-true b 256 e in unfold hasLabelClass classOf isLetter isUpper isDigit isLabelByte in (rw (e, C .is b h) (agree (λ k. ltb (classOf k) 3) isLabelByte tt b h))
     go false e = unfold hasLabelClass in (rw e (sym (no-label-byte b (ltb-false b 256 e))))
 
-while-class : (table : Bytes) → Classifies table → (s : Bytes) → takeWhile (hasLabelClass table) s ≡ takeWhile isLabelByte s
+pub while-same : (f g : ℕ → Bool) → ((b : ℕ) → f b ≡ g b) → (l : Bytes) → takeWhile f l ≡ takeWhile g l
 unfolding takeWhile
-while-class table C [] = refl
-while-class table C (b ∷ s) = rw (label-class table C b, while-class table C s)
+while-same f g e [] = refl
+while-same f g e (b ∷ l) = rw (e b, while-same f g e l)
 
 -- ---- 1 to 63 bytes, no hyphen first or last
 
@@ -145,7 +145,7 @@ module _ {classes s : Bytes} {from : ℕ} (H : HostFrom classes s from) {to : �
 
   module _ (C : Classifies classes) where
     scanned : to ≡ from + length (takeWhile isLabelByte (drop from s))
-    scanned = g ∙ rw (while-class classes C (drop from s))
+    scanned = g ∙ rw (while-same (hasLabelClass classes) isLabelByte (label-class classes C) (drop from s))
 
     split-is : all isLabel (onFirst (takeWhile isLabelByte (drop from s)) (splitAt 46 (drop to s))) ≡ isHost s
     split-is = rw (scan-rest isLabelByte s from to scanned, ← split-while isLabelByte 46 dot-no-label (drop from s)) (H .is C)

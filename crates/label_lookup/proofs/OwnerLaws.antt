@@ -9,7 +9,7 @@ use Rattle.ascii.specs.Ascii.{Bytes, isNone}
 use Rattle.hosts.proofs.Ends.{true-false}
 use Rattle.suffix.specs.Suffix.{readTable, privateLabel, orEmpty}
 use Rattle.suffix.specs.code.Depth.{deeperThan}
-use Rattle.suffix.proofs.Lines.{rest-whole}
+use Rattle.hosts.proofs.Places.{rest-whole}
 use Rattle.label_lookup.specs.code.Answer.{LookupIs, unread, looked-up}
 use Rattle.label_lookup.specs.code.Span.{Spans, OwnerIs, bad-table, owner-is}
 use Rattle.label_lookup.specs.declared.Lookup.{Lookup}

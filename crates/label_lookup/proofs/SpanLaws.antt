@@ -23,7 +23,8 @@ use Rattle.suffix.specs.code.Depth.{deepest, lineDepth, Good}
 use Rattle.suffix.specs.code.Idle.{KindsOf, Passes, ShallowBy}
 use Rattle.suffix.specs.code.Passed.{linesFrom, Passed}
 use Rattle.suffix.proofs.Ends.{wild}
-use Rattle.suffix.proofs.Lines.{rest-whole, rule-host, rule-star, empty-skipped, comment-skipped, wild-in, exception-in}
+use Rattle.hosts.proofs.Places.{rest-whole}
+use Rattle.suffix.proofs.Lines.{rule-host, rule-star, empty-skipped, comment-skipped, wild-in, exception-in}
 use Rattle.suffix.proofs.Passes.{content-is, line-stops, lines-in, lines-out, lines-cut}
 use Rattle.suffix.proofs.Cuts.{split-both, read-both}
 use Rattle.suffix.proofs.PassedLines.{passed-on, passed-line, read-one}

@@ -48,7 +48,7 @@ pub enum Owner {
     Label(usize, Deeper),
 }
 
-// 1 to 253 bytes of labels joined by dots, by the class table, which is lent here and below.
+// hosts::is_host_by, where the class table is known to give each byte its class. It is lent, here and below.
 fn is_host(classes: &[u8; 256], w: &[u8]) -> bool
     requires { ⌜ Classifies (now classes) ⌝ }
     ensures { λ r. ⌜ r ≡ isHost (now (w .entry)) ⌝ }
@@ -269,7 +269,7 @@ fn deeper_tail(host: &[u8], depth: usize, start: usize, d: usize) -> usize
     start
 }
 
-// The kind of each byte value, for a host.
+// suffix::skips::kinds, where the class table is known to give each byte its class.
 fn kinds_for(classes: &[u8; 256], host: &[u8]) -> [u8; 256]
     requires { ⌜ Classifies (now classes) ⌝ }
     ensures { λ r. ⌜ KindsOf (now (host .entry)) r ⌝ }

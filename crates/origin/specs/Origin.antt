@@ -25,7 +25,7 @@ pub record Authority : Type 0 where
 unfoldable pub isPort : Bytes → Bool
 isPort p = not (isNone (number16 p)) && not (beginsWith (text "0") p)
 
--- a port's digits by their value, an absent port being 443
+-- a port's digits by their value, an absent port being 443 (what rule 4 compares: Matching.antt of matching)
 unfoldable pub effectivePort : Bytes → ℕ
 effectivePort p = if isEmpty p then 443 else value p
 

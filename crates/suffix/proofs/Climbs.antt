@@ -21,7 +21,8 @@ use Rattle.ascii.proofs.Compare.{same-eq}
 use Rattle.hosts.proofs.Ends.{true-false, labels-some}
 use Rattle.suffix.proofs.Ends.{wild}
 use Rattle.suffix.proofs.Speed.{length-last, last-last, deep-match, last-names}
-use Rattle.suffix.proofs.Lines.{rule-host, rule-wild, rule-wild-long, rule-wild-bad, rule-exception, rule-exception-one, rule-exception-bad, rule-star, begins-is, rest-whole, empty-skipped, comment-skipped, other-read}
+use Rattle.hosts.proofs.Places.{rest-whole}
+use Rattle.suffix.proofs.Lines.{rule-host, rule-wild, rule-wild-long, rule-wild-bad, rule-exception, rule-exception-one, rule-exception-bad, rule-star, begins-is, empty-skipped, comment-skipped, other-read}
 use Rattle.suffix.proofs.Deepens.{wild-goes}
 
 -- ---- deeper than k labels is deeper than fewer

@@ -1,7 +1,6 @@
 -- The end of a line, and of what is read of it. Assumes nothing.
 use mathlib.Core.Path.{_≡_, refl, sym, ap, _∙_}
 use mathlib.Core.Bool.{Bool, true, false}
-use mathlib.Core.List.{[], _∷_}
 use Prim.Native.Nat.{ℕ, _+_, _-_, _≤_, _<_}
 use native.Mathlib.Omega.{arith}
 use lib.ListN.{length, getD, drop}
@@ -10,17 +9,13 @@ use borrow.Author.Needs.{needs}
 use borrow.Author.Tests.{eqb-true, eqb-false, lt-ltb, le-ltb, ltb-true, ltb-false}
 use Rattle.ascii.specs.Ascii.{Bytes, takeWhile}
 use Rattle.ascii.proofs.Scan.{scan-rest}
+use Rattle.hosts.proofs.Shapes.{while-same}
 use Rattle.suffix.specs.code.Pass.{inLine, inContent}
 use Rattle.byte_search.specs.code.Ranges.{outside}
 use Rattle.byte_search.proofs.RangeLaws.{SameEnd, end-starts, end-out, end-found, end-next}
 use Rattle.suffix.proofs.Passes.{line-lf, line-other, content-other, content-high, while-two}
 
 -- all bytes but the LF
-while-same : (f g : ℕ → Bool) → ((b : ℕ) → f b ≡ g b) → (l : Bytes) → takeWhile f l ≡ takeWhile g l
-unfolding takeWhile
-while-same f g e [] = refl
-while-same f g e (b ∷ l) = rw (e b, while-same f g e l)
-
 outside-lf : (b : ℕ) → outside 10 10 b ≡ inLine b
 outside-lf b = go (eqb b 10) refl
   where

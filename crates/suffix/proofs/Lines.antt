@@ -9,10 +9,10 @@ use native.Mathlib.Numerals.{add-one}
 use mir.Val.{Fits}
 use mir.Syntax.{w64}
 use lib.ListN.{length, take, drop}
-use lib.Seq.{take-all}
 use lib.ListN.{length-drop, length-append}
 use lib.Dec.{eqb, leb, ltb}
 use borrow.Author.Tests.{eqb-true, lt-leb, le-leb, ltb-true, ltb-false}
+use Rattle.hosts.proofs.Places.{rest-whole}
 use Rattle.ascii.specs.Ascii.{Bytes, if_then_else_, all, filterBy, lastOf, joinHead, splitAt, isDigit, isLetter, isUpper, same, beginsWith}
 use Rattle.ascii.proofs.Split.{split-parts, split-other}
 use Rattle.hosts.specs.Host.{labels, isLabelByte, isLabel, isHost}
@@ -174,9 +174,6 @@ begins-is (b ∷ p) (c ∷ w) e = let h = and-eq-true-iff (eqb b c) (beginsWith 
 
 pub begins-length : (p w : Bytes) → beginsWith p w ≡ true → length p ≤ length w
 begins-length p w e = omega (arith, ap length (begins-is p w e), length-append p (drop (length p) w))
-
-pub rest-whole : (s : Bytes) (k : ℕ) → take (length s - k) (drop k s) ≡ drop k s
-rest-whole s k = take-all (length s - k) (drop k s) (omega (arith, length-drop k s))
 
 module _ (h w : Bytes) {r : Bool} where
   pub rule-is-star : r ≡ same w (42 ∷ []) → r ≡ true → Sizes 0 1 ≡ bestOf (labels h) (oneRule (readRule w))

@@ -259,7 +259,8 @@ fn is_idle(host: &[u8], tail: &[u8], most: usize, w: &[u8]) -> bool
 }
 
 // The first line that may match the host in more labels than most or be an exception, or go deeper than more of its labels than
-// the depth, whose labels and one more begin at last. A place behind the host's end, which no caller has, is none where they do.
+// the depth, whose labels and one more begin at last. Where last lies behind the host's end,
+// which no caller gives, nothing is passed over.
 pub fn idle_lines(
     kinds: &[u8; 256],
     host: &[u8],

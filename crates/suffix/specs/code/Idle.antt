@@ -86,6 +86,7 @@ pub data Stopped (host table : Bytes) (from : ℕ) : Stop → Type 0 where
   at-host : {start to : ℕ} → Idle host table from start → HostLine table start to → Stopped host table from (Host start to)
   at-other : {start : ℕ} → Idle host table from start → start ≤ length table → Stopped host table from (Other start)
 
+-- where the line begins at which the pass stopped, and where it ends if it is a host
 unfoldable pub startOf : Stop → ℕ
 startOf (Host start to) = start
 startOf (Other start) = start
@@ -94,7 +95,7 @@ unfoldable pub endOf : Stop → ℕ
 endOf (Host start to) = to
 endOf (Other start) = start
 
--- the same where the table of kinds that is lent is the host's
+-- Stopped, where the table of kinds that is lent is the host's; the places are in order by any table
 pub record StoppedBy (kinds host table : Bytes) (from : ℕ) (r : Stop) : Type 0 where
   pub begun : from ≤ startOf r
   pub onward : startOf r ≤ endOf r
