@@ -25,7 +25,9 @@ pub ruleset number-laws = (scan-end, scan-stop, scan-more, digit-below, digit-at
 
 pub ruleset unescaped-laws = (seq-bad, seq-on, range-low, range-in, range-high, wide-low, wide-c2, wide-e0, wide-e1, wide-ed, wide-ee, wide-f0, wide-f1, wide-f4, wide-high, plain-low, plain-quote, plain-backslash, plain-20, plain-23, plain-5d, plain-wide, fits)
 
-pub ruleset escape-laws = (hex-low, hex-decimal, hex-between, hex-upper, hex-middle, hex-lower, hex-high, digit-past, digit-in, hex4-first, hex4-second, hex4-third, hex4-fourth, hex4-all, code-bad, code-low, code-high, code-lone, pair-bare, pair-bad, pair-under, pair-above, pair-is, escape-quote, escape-backslash, escape-slash, escape-b, escape-f, escape-n, escape-r, escape-t, escape-u, escape-other, hex-fits)
+pub ruleset escape-laws = (hex-low, hex-decimal, hex-between, hex-upper, hex-middle, hex-lower, hex-high, hex4-first, hex4-second, hex4-third, hex4-fourth, hex4-all, code-bad, code-low, code-high, code-lone, pair-bare, pair-bad, pair-under, pair-above, pair-is, escape-quote, escape-backslash, escape-slash, escape-b, escape-f, escape-n, escape-r, escape-t, escape-u, escape-other, hex-fits)
+
+pub ruleset hex-at-laws = (digit-past, digit-in)
 
 pub ruleset ascii-laws = (scan-end, scan-stop, scan-more, ascii-low, ascii-high, ascii-quote, ascii-other, ascii-string, ascii-none, fits)
 
