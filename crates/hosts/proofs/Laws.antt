@@ -17,7 +17,6 @@ pub ruleset laws = (
   host-empty,
   host-long,
   host-anyhow,
-  host-told,
   host-starts,
   host-part-start,
   host-part-end,
@@ -55,3 +54,6 @@ pub ruleset laws = (
   ends-rest,
   needs,
 )
+
+-- of is_host, which knows that the table gives each byte its class
+pub ruleset told-laws = (host-told, needs)
