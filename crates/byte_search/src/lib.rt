@@ -1,4 +1,6 @@
 // The first byte whose value lies in a range, from a place on.
+#![tactic(auto)]
+
 ghost use Rattle.std.specs.Prelude.{◌≡◌, ◌+◌, ◌≤◌, min, length, drop};
 ghost use Rattle.ascii.specs.Ascii.{take_while};
 ghost use Rattle.byte_search.specs.code.Ranges.{outside, block_end, place_in};

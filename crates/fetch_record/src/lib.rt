@@ -1,4 +1,6 @@
 // The fetch record: at most 8 redirects, then at most one answer, then the end; what it settles of the decision.
+#![tactic(auto)]
+
 pub mod item;
 
 ghost use Rattle.std.specs.Prelude.{◌≡◌, true, [], ◌∷◌, ◌+◌, ◌*◌, ◌≤◌, length};

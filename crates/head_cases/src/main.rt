@@ -1,4 +1,5 @@
 // Response heads on both sides of each bound of document 02, S-2: what is refused, or the bytes of the item and the Location that are written.
+#![tactic(auto)]
 ghost use Rattle.std.specs.Prelude.{◌≤◌};
 
 use head_items::Lengths;

@@ -1,4 +1,6 @@
 // Hosts and their labels.
+#![tactic(auto)]
+
 ghost use Rattle.std.specs.Prelude.{◌≡◌, ◌+◌, ◌≤◌, length, drop};
 ghost use Rattle.ascii.specs.Ascii.{all, is_digit, last_of, same_no_case, take_while};
 ghost use Rattle.hosts.specs.Host.{labels, is_shaped, is_host, is_address};

@@ -1,4 +1,5 @@
 // JSON texts (RFC 8259, sections 2 to 5): values, skipped.
+#![tactic(auto)]
 ghost use Rattle.std.specs.Prelude.{◌≡◌, not};
 ghost use Rattle.ascii.specs.Ascii.{is_none, text};
 ghost use Rattle.json.specs.Json.{listed, read_member, read_value, read_json};

@@ -1,5 +1,7 @@
 // Reads a body of at most 65,536 bytes from standard input, asks 1,000 times whether it is readable, and writes how often it was.
 // Its first byte is set to a blank before each turn. hub/benches/json.rs takes the time.
+#![tactic(auto)]
+
 use libc::{STDIN_FILENO, STDOUT_FILENO};
 use std::num::wrapping_add_u64;
 

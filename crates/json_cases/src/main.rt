@@ -1,4 +1,6 @@
 // JSON on both sides of each bound: what is expected follows from document 01 and RFC 8259, not from a run.
+#![tactic(auto)]
+
 mod bytes;
 mod escapes;
 mod lengths;

@@ -1,5 +1,7 @@
 // Reads texts from standard input, each behind its length in two bytes, big-endian, of at most 4,096, and writes a line for each:
 // `unreadable`, `readable`, or, where the text is one string, `string` and its decoded bytes in hexadecimal, or `string long`.
+#![tactic(auto)]
+
 use json_text::Progress;
 use libc::{STDIN_FILENO, STDOUT_FILENO};
 

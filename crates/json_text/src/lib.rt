@@ -1,4 +1,6 @@
 // The lexical part of JSON (RFC 8259, sections 2, 6 and 7): blanks, words, numbers and strings.
+#![tactic(auto)]
+
 pub mod decoding;
 pub mod escapes;
 pub mod numbers;

@@ -1,4 +1,6 @@
 // The private label of a host: what one pass over the suffix table finds for it, and what is held of rules deeper than the label.
+#![tactic(auto)]
+
 mod spans;
 
 ghost use Rattle.std.specs.Prelude.{◌≡◌, true, ◌∷◌, ◌++◌, suc, max};

@@ -1,4 +1,6 @@
 // Bodies on both sides of each bound of document 01, "The list": what is refused, or the first two selected entries, decoded.
+#![tactic(auto)]
+
 use json_text::{Next, Progress};
 use libc::STDOUT_FILENO;
 use trusted_list::Selection;

@@ -1,5 +1,7 @@
 // Runs the fetch location, a part returned from one of two lent slices, on cases of document 01, "Fetch record and decision":
 // "returns the last redirect's part of the text, or the AppID where there is none, and an empty part unless the decision is fetch".
+#![tactic(auto)]
+
 use libc::STDOUT_FILENO;
 
 // Two Locations: the first 12 bytes and the last 13 of 25.

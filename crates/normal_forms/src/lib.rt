@@ -1,4 +1,5 @@
 // Normal forms, and bytes written into a lent slice.
+#![tactic(auto)]
 ghost use Rattle.std.specs.Prelude.{◌≡◌, ◌+◌, length};
 ghost use Rattle.ascii.specs.Ascii.{lower};
 ghost use Rattle.origin.specs.Origin.{shown_port, normal_form};

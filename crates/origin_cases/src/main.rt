@@ -1,6 +1,8 @@
 // Boundary and malformed identifiers: each line of the input, then some made here. A line is six marks and the text, or a name for it: h begins `https://`, n begins
 // with a native prefix; w web origin; u HTTPS URL; a android; i ios; f facet; - where it is not so. The file stdout
 // holds what document 01 says of each.
+#![tactic(auto)]
+
 use libc::{STDIN_FILENO, STDOUT_FILENO};
 use origin::Reading;
 

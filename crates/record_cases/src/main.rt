@@ -1,4 +1,6 @@
 // Runs records on both sides of each bound of document 01, "Fetch record and decision", and writes what each settles.
+#![tactic(auto)]
+
 use fetch_record::{Outcome, Target};
 use libc::STDOUT_FILENO;
 

@@ -1,4 +1,5 @@
 // One response head (RFC 9112): a status line, field lines, the empty line last.
+#![tactic(auto)]
 ghost use Rattle.std.specs.Prelude.{◌≡◌, true, ◌+◌, ◌≤◌, length, drop};
 ghost use Rattle.ascii.specs.Ascii.{all, take_while, among};
 ghost use Rattle.ascii.specs.code.Numbers.{number_of};

@@ -1,6 +1,7 @@
 // The trusted facets list: one pass from a body's bytes to the selected ids, then entry after entry.
 // The body is nested at most 16 deep (document 01, "The list"): `read_value 16` is the body, and each object or array
 // that is open around a value leaves it one level less, down to 12 for a number of `version` and a string of `ids`.
+#![tactic(auto)]
 ghost use Rattle.std.specs.Prelude.{◌≡◌};
 ghost use Rattle.ascii.specs.Ascii.{text};
 ghost use Rattle.json_text.specs.code.Places.{read_at, place_of};

@@ -3,37 +3,37 @@ use Rattle.ascii.proofs.Laws.{laws}
 use Rattle.ascii.proofs.part.Statement.{statement}
 use Rattle.ascii.proofs.part.Tie as tie
 
-pub part-spec : {M : Type 1} → statement M
-part-spec =
+pub part_spec : {M : Type 1} → statement M
+part_spec =
     tie.close
     (tie.spec
-    {- sub-result -}
+    {- slice_bounds-result-count -}
     (λ c. search laws)
-    {- part-result-start -}
+    {- slice_bounds-result-start -}
     (λ c. search laws)
-    {- part-result-end -}
+    {- slice_bounds-result-end -}
+    (λ c. search laws)
+    {- returns-then-s-from -}
+    (λ c. search laws)
+    {- slice_bounds-result-count-then-to-from -}
+    (λ c. search laws)
+    {- slice_bounds-result-start-then-to-from -}
+    (λ c. search laws)
+    {- slice_bounds-result-end-then-to-from -}
+    (λ c. search laws)
+    {- returns-then-to-from -}
+    (λ c. search laws)
+    {- slice_bounds-result-count-then-s-to -}
+    (λ c. search laws)
+    {- slice_bounds-result-start-then-s-to -}
+    (λ c. search laws)
+    {- slice_bounds-result-end-then-s-to -}
+    (λ c. search laws)
+    {- returns-then-s-to -}
+    (λ c. search laws)
+    {- slice_bounds-result-start-2 -}
+    (λ c. search laws)
+    {- slice_bounds-result-end-2 -}
     (λ c. search laws)
     {- returns -}
-    (λ c. search laws)
-    {- sub-result-2 -}
-    (λ c. search laws)
-    {- part-result-start-2 -}
-    (λ c. search laws)
-    {- part-result-end-2 -}
-    (λ c. search laws)
-    {- returns-2 -}
-    (λ c. search laws)
-    {- sub-result-3 -}
-    (λ c. search laws)
-    {- part-result-start-3 -}
-    (λ c. search laws)
-    {- part-result-end-3 -}
-    (λ c. search laws)
-    {- returns-3 -}
-    (λ c. search laws)
-    {- part-result-start-4 -}
-    (λ c. search laws)
-    {- part-result-end-4 -}
-    (λ c. search laws)
-    {- returns-4 -}
     (λ c. search laws))

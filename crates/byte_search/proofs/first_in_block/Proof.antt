@@ -5,35 +5,35 @@ use Rattle.byte_search.proofs.RangeLaws.{block_laws}
 use Rattle.byte_search.proofs.first_in_block.Statement.{statement}
 use Rattle.byte_search.proofs.first_in_block.Tie as tie
 
-abbrev invariant-loop : tie.invariant-loop
-invariant-loop s from lo hi r₀ k₀ r k = Block lo hi s from r k
+abbrev invariant-loop-k : tie.invariant-loop-k
+invariant-loop-k s from lo hi r₀ k₀ r k = Block lo hi s from r k
 
-abbrev decreases-loop : tie.decreases-loop
-decreases-loop s from lo hi r₀ k₀ r k = 64 - k
+abbrev decreases-loop-k : tie.decreases-loop-k
+decreases-loop-k s from lo hi r₀ k₀ r k = 64 - k
 
-pub first-in-block-spec : {M : Type 1} → statement M
-first-in-block-spec =
+pub first_in_block_spec : {M : Type 1} → statement M
+first_in_block_spec =
     tie.close
     (tie.spec
-    invariant-loop
-    decreases-loop
-    {- loop-holds -}
+    invariant-loop-k
+    decreases-loop-k
+    {- loop-k-init -}
     (λ c. search block_laws)
-    {- cast-place-in -}
+    {- overflow_cast-k -}
     (λ c. search block_laws)
-    {- add-place-in -}
+    {- overflow_add-from -}
     (λ c. search block_laws)
-    {- shared-slice-read-place-in -}
+    {- bounds-s-from -}
     (λ c. search block_laws)
-    {- place-in-requires -}
+    {- place_in-requires -}
     (λ c κs. search block_laws)
-    {- lesser-of-requires -}
+    {- lesser_of-r-requires -}
     (λ c κs. search block_laws)
-    {- add-k -}
+    {- overflow_add-k -}
     (λ c. search block_laws)
-    {- loop-less -}
+    {- loop-k-smaller -}
     (λ c. search block_laws)
-    {- loop-again -}
+    {- loop-k-preserved -}
     (λ c. search block_laws)
     {- returns -}
     (λ c. search block_laws))

@@ -3,5 +3,5 @@ use Rattle.byte_search.proofs.RangeLaws.{range_laws}
 use Rattle.byte_search.proofs.is_outside.Statement.{statement}
 use Rattle.byte_search.proofs.is_outside.Tie as tie
 
-pub is-outside-spec : {M : Type 1} → statement M
-is-outside-spec = tie.close (tie.spec {- returns -} (λ c. search range_laws) {- returns-2 -} (λ c. search range_laws))
+pub is_outside_spec : {M : Type 1} → statement M
+is_outside_spec = tie.close (tie.spec {- returns-then-b-lo -} (λ c. search range_laws) {- returns -} (λ c. search range_laws))

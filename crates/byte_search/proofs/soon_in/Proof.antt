@@ -7,31 +7,31 @@ use Rattle.byte_search.proofs.RangeLaws.{range_laws}
 use Rattle.byte_search.proofs.soon_in.Statement.{statement}
 use Rattle.byte_search.proofs.soon_in.Tie as tie
 
-abbrev invariant-loop : tie.invariant-loop
-invariant-loop s from lo hi i₀ i = SameEnd (outside lo hi) s from i
+abbrev invariant-loop-i : tie.invariant-loop-i
+invariant-loop-i s from lo hi i₀ i = SameEnd (outside lo hi) s from i
 
-abbrev decreases-loop : tie.decreases-loop
-decreases-loop s from lo hi i₀ i = length s - i
+abbrev decreases-loop-i : tie.decreases-loop-i
+decreases-loop-i s from lo hi i₀ i = length s - i
 
-pub soon-in-spec : {M : Type 1} → statement M
-soon-in-spec =
+pub soon_in_spec : {M : Type 1} → statement M
+soon_in_spec =
     tie.close
     (tie.spec
-    invariant-loop
-    decreases-loop
-    {- loop-holds -}
+    invariant-loop-i
+    decreases-loop-i
+    {- loop-i-init -}
     (λ c. search range_laws)
-    {- shared-slice-read-is-outside -}
+    {- bounds-s-i -}
     (λ c. search range_laws)
-    {- is-outside-requires -}
+    {- is_outside-requires -}
     (λ c κs. search range_laws)
-    {- add-i -}
+    {- overflow_add-i -}
     (λ c. search range_laws)
-    {- loop-less -}
+    {- loop-i-smaller -}
     (λ c. search range_laws)
-    {- loop-again -}
+    {- loop-i-preserved -}
+    (λ c. search range_laws)
+    {- returns-else-is_outside -}
     (λ c. search range_laws)
     {- returns -}
-    (λ c. search range_laws)
-    {- returns-2 -}
     (λ c. search range_laws))

@@ -7,31 +7,31 @@ use Rattle.hosts.proofs.Laws.{laws}
 use Rattle.hosts.proofs.all_digits.Statement.{statement}
 use Rattle.hosts.proofs.all_digits.Tie as tie
 
-abbrev invariant-loop : tie.invariant-loop
-invariant-loop s i₀ i = DigitsFrom s (all is_digit s) i
+abbrev invariant-loop-i : tie.invariant-loop-i
+invariant-loop-i s i₀ i = DigitsFrom s (all is_digit s) i
 
-abbrev decreases-loop : tie.decreases-loop
-decreases-loop s i₀ i = length s - i
+abbrev decreases-loop-i : tie.decreases-loop-i
+decreases-loop-i s i₀ i = length s - i
 
-pub all-digits-spec : {M : Type 1} → statement M
-all-digits-spec =
+pub all_digits_spec : {M : Type 1} → statement M
+all_digits_spec =
     tie.close
     (tie.spec
-    invariant-loop
-    decreases-loop
-    {- loop-holds -}
+    invariant-loop-i
+    decreases-loop-i
+    {- loop-i-init -}
     (λ c. search laws)
-    {- shared-slice-read-is-digit -}
+    {- bounds-s-i -}
     (λ c. search laws)
-    {- is-digit-requires -}
+    {- is_digit-requires -}
     (λ c κs. search laws)
-    {- add-i -}
+    {- overflow_add-i -}
     (λ c. search laws)
-    {- loop-less -}
+    {- loop-i-smaller -}
     (λ c. search laws)
-    {- loop-again -}
+    {- loop-i-preserved -}
+    (λ c. search laws)
+    {- returns-else-is_digit -}
     (λ c. search laws)
     {- returns -}
-    (λ c. search laws)
-    {- returns-2 -}
     (λ c. search laws))

@@ -3,19 +3,19 @@ use Rattle.hosts.proofs.Laws.{laws}
 use Rattle.hosts.proofs.is_address.Statement.{statement}
 use Rattle.hosts.proofs.is_address.Tie as tie
 
-pub is-address-spec : {M : Type 1} → statement M
-is-address-spec =
+pub is_address_spec : {M : Type 1} → statement M
+is_address_spec =
     tie.close
     (tie.spec
-    {- last-labels-requires -}
+    {- last_labels-k-requires -}
     (λ c κs. search laws)
-    {- sub-all-digits -}
+    {- slice_bounds-all_digits-count -}
     (λ c. search laws)
-    {- part-all-digits-start -}
+    {- slice_bounds-all_digits-start -}
     (λ c. search laws)
-    {- part-all-digits-end -}
+    {- slice_bounds-all_digits-end -}
     (λ c. search laws)
-    {- all-digits-requires -}
+    {- all_digits-requires -}
     (λ c κs. search laws)
     {- returns -}
     (λ c. search laws))

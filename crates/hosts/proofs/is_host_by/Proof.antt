@@ -6,45 +6,45 @@ use Rattle.hosts.proofs.Laws.{laws}
 use Rattle.hosts.proofs.is_host_by.Statement.{statement}
 use Rattle.hosts.proofs.is_host_by.Tie as tie
 
-abbrev invariant-loop : tie.invariant-loop
-invariant-loop classes s from₀ from = HostFrom classes s from
+abbrev invariant-loop-from : tie.invariant-loop-from
+invariant-loop-from classes s from₀ from = HostFrom classes s from
 
-abbrev decreases-loop : tie.decreases-loop
-decreases-loop classes s from₀ from = length s - from
+abbrev decreases-loop-from : tie.decreases-loop-from
+decreases-loop-from classes s from₀ from = length s - from
 
-pub is-host-by-spec : {M : Type 1} → statement M
-is-host-by-spec =
+pub is_host_by_spec : {M : Type 1} → statement M
+is_host_by_spec =
     tie.close
     (tie.spec
-    invariant-loop
-    decreases-loop
-    {- returns -}
+    invariant-loop-from
+    decreases-loop-from
+    {- returns-then-s-lt1 -}
     (λ c. search laws)
-    {- returns-2 -}
+    {- returns-then-s-gt253 -}
     (λ c. search laws)
-    {- loop-holds -}
+    {- loop-from-init -}
     (λ c. search laws)
-    {- label-end-requires -}
+    {- label_end-to-requires -}
     (λ c κs. search laws)
-    {- sub-is-shaped -}
+    {- slice_bounds-is_shaped-count -}
     (λ c. search laws)
-    {- part-is-shaped-start -}
+    {- slice_bounds-is_shaped-start -}
     (λ c. search laws)
-    {- part-is-shaped-end -}
+    {- slice_bounds-is_shaped-end -}
     (λ c. search laws)
-    {- is-shaped-requires -}
+    {- is_shaped-requires -}
     (λ c κs. search laws)
-    {- returns-3 -}
+    {- returns-then-s-to -}
     (λ c. search laws)
-    {- shared-slice-read-if5 -}
+    {- bounds-s-to -}
     (λ c. search laws)
-    {- returns-4 -}
+    {- returns-then-s-to-ne46 -}
     (λ c. search laws)
-    {- add-from -}
+    {- overflow_add-from -}
     (λ c. search laws)
-    {- loop-less -}
+    {- loop-from-smaller -}
     (λ c. search laws)
-    {- loop-again -}
+    {- loop-from-preserved -}
     (λ c. search laws)
-    {- returns-5 -}
+    {- returns-else-is_shaped -}
     (λ c. search laws))

@@ -3,5 +3,5 @@ use Rattle.hosts.proofs.Laws.{laws}
 use Rattle.hosts.proofs.is_label_byte.Statement.{statement}
 use Rattle.hosts.proofs.is_label_byte.Tie as tie
 
-pub is-label-byte-spec : {M : Type 1} → statement M
-is-label-byte-spec = tie.close (tie.spec {- element-copy-out-result -} (λ c. search laws) {- returns -} (λ c. search laws))
+pub is_label_byte_spec : {M : Type 1} → statement M
+is_label_byte_spec = tie.close (tie.spec {- bounds-classes-b -} (λ c. search laws) {- returns -} (λ c. search laws))

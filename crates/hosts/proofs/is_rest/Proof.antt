@@ -4,35 +4,35 @@ use Rattle.hosts.proofs.Laws.{laws}
 use Rattle.hosts.proofs.is_rest.Statement.{statement}
 use Rattle.hosts.proofs.is_rest.Tie as tie
 
-abbrev invariant-loop : tie.invariant-loop
-invariant-loop h k w i₀ i = Rest h w k i
+abbrev invariant-loop-i : tie.invariant-loop-i
+invariant-loop-i h k w i₀ i = Rest h w k i
 
-abbrev decreases-loop : tie.decreases-loop
-decreases-loop h k w i₀ i = i
+abbrev decreases-loop-i : tie.decreases-loop-i
+decreases-loop-i h k w i₀ i = i
 
-pub is-rest-spec : {M : Type 1} → statement M
-is-rest-spec =
+pub is_rest_spec : {M : Type 1} → statement M
+is_rest_spec =
     tie.close
     (tie.spec
-    invariant-loop
-    decreases-loop
-    {- loop-holds -}
+    invariant-loop-i
+    decreases-loop-i
+    {- loop-i-init -}
     (λ c. search laws)
-    {- sub-j -}
+    {- overflow_sub-j -}
     (λ c. search laws)
-    {- add-alike -}
+    {- overflow_add-k -}
     (λ c. search laws)
-    {- shared-slice-read-alike -}
+    {- bounds-h-k -}
     (λ c. search laws)
-    {- shared-slice-read-alike-2 -}
+    {- bounds-w-j -}
     (λ c. search laws)
     {- alike-requires -}
     (λ c κs. search laws)
-    {- loop-less -}
+    {- loop-i-smaller -}
     (λ c. search laws)
-    {- loop-again -}
+    {- loop-i-preserved -}
+    (λ c. search laws)
+    {- returns-else-alike -}
     (λ c. search laws)
     {- returns -}
-    (λ c. search laws)
-    {- returns-2 -}
     (λ c. search laws))

@@ -7,37 +7,37 @@ use Rattle.hosts.proofs.Laws.{laws}
 use Rattle.hosts.proofs.label_count.Statement.{statement}
 use Rattle.hosts.proofs.label_count.Tie as tie
 
-abbrev invariant-loop : tie.invariant-loop
-invariant-loop h n₀ i₀ n i = Counted h (length (labels h)) n i
+abbrev invariant-loop-i : tie.invariant-loop-i
+invariant-loop-i h n₀ i₀ n i = Counted h (length (labels h)) n i
 
-abbrev decreases-loop : tie.decreases-loop
-decreases-loop h n₀ i₀ n i = length h - i
+abbrev decreases-loop-i : tie.decreases-loop-i
+decreases-loop-i h n₀ i₀ n i = length h - i
 
-pub label-count-spec : {M : Type 1} → statement M
-label-count-spec =
+pub label_count_spec : {M : Type 1} → statement M
+label_count_spec =
     tie.close
     (tie.spec
-    invariant-loop
-    decreases-loop
-    {- loop-holds -}
+    invariant-loop-i
+    decreases-loop-i
+    {- loop-i-init -}
     (λ c. search laws)
-    {- shared-slice-read-if1 -}
+    {- bounds-h-i -}
     (λ c. search laws)
-    {- add-n -}
+    {- overflow_add-n -}
     (λ c. search laws)
-    {- add-i -}
+    {- overflow_add-i -}
     (λ c. search laws)
-    {- loop-less -}
+    {- loop-i-smaller-then-h-i-eq46 -}
     (λ c. search laws)
-    {- loop-again -}
+    {- loop-i-preserved-then-h-i-eq46 -}
     (λ c. search laws)
-    {- add-i-2 -}
+    {- overflow_add-i-else-h-i-eq46 -}
     (λ c. search laws)
-    {- loop-less-2 -}
+    {- loop-i-smaller -}
     (λ c. search laws)
-    {- loop-again-2 -}
+    {- loop-i-preserved -}
     (λ c. search laws)
-    {- add-result -}
+    {- overflow_add-result -}
     (λ c. search laws)
     {- returns -}
     (λ c. search laws))

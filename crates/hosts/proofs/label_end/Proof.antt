@@ -8,31 +8,31 @@ use Rattle.hosts.proofs.Laws.{laws}
 use Rattle.hosts.proofs.label_end.Statement.{statement}
 use Rattle.hosts.proofs.label_end.Tie as tie
 
-abbrev invariant-loop : tie.invariant-loop
-invariant-loop classes s from i₀ i = i + length (take_while (has_label_class classes) (drop i s)) ≡ from + length (take_while (has_label_class classes) (drop from s))
+abbrev invariant-loop-i : tie.invariant-loop-i
+invariant-loop-i classes s from i₀ i = i + length (take_while (has_label_class classes) (drop i s)) ≡ from + length (take_while (has_label_class classes) (drop from s))
 
-abbrev decreases-loop : tie.decreases-loop
-decreases-loop classes s from i₀ i = length s - i
+abbrev decreases-loop-i : tie.decreases-loop-i
+decreases-loop-i classes s from i₀ i = length s - i
 
-pub label-end-spec : {M : Type 1} → statement M
-label-end-spec =
+pub label_end_spec : {M : Type 1} → statement M
+label_end_spec =
     tie.close
     (tie.spec
-    invariant-loop
-    decreases-loop
-    {- loop-holds -}
+    invariant-loop-i
+    decreases-loop-i
+    {- loop-i-init -}
     (λ c. search laws)
-    {- shared-slice-read-is-label-byte -}
+    {- bounds-s-i -}
     (λ c. search laws)
-    {- is-label-byte-requires -}
+    {- is_label_byte-requires -}
     (λ c κs. search laws)
-    {- add-i -}
+    {- overflow_add-i -}
     (λ c. search laws)
-    {- loop-less -}
+    {- loop-i-smaller -}
     (λ c. search laws)
-    {- loop-again -}
+    {- loop-i-preserved -}
+    (λ c. search laws)
+    {- returns-else-is_label_byte -}
     (λ c. search laws)
     {- returns -}
-    (λ c. search laws)
-    {- returns-2 -}
     (λ c. search laws))
