@@ -163,3 +163,6 @@ pub ruleset range_laws = (
   end_more,
   rules,
 )
+
+-- for the return inside a block
+pub ruleset here_laws = (end_here, rules)

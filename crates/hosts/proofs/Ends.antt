@@ -5,7 +5,7 @@ use mathlib.Core.List.{List, [], ◌∷◌, ◌++◌, map}
 use Prim.Native.Nat.{ℕ, zero, suc, ◌+◌, ◌-◌, ◌≤◌, ◌<◌}
 use native.Mathlib.Omega.{arith}
 use lib.ListN.{length, get_or, take, drop, length-drop, length-append, length-map}
-use lib.Seq.{drop_at, split_at}
+use lib.Seq.{drop_at, split_at as split_at_nth}
 use lib.Dec.{eqb, leb}
 use borrow.Author.Tests.{eq-eqb, ne_eqb, eqb-true, le-leb}
 use Rattle.ascii.specs.Ascii.{Bytes, if◌then◌else◌, last_of, join_head, split_at, join_with, lower, same, same_no_case}
@@ -60,7 +60,7 @@ pub cut_at : (h : Bytes) (k : ℕ) → k ≤ length h → is_boundary k h ≡ tr
 cut_at h zero l e = record { before = []; is = refl }
 cut_at h (suc j) l e =
     let d : get_or h j 0 ≡ 46 = eqb-true (get_or h j 0) 46 (sym (boundary_suc j h) ∙ e) in
-    record { before = split_at 46 (take j h); is = ap (split_at 46) (split_at h j 0 l) ∙ rw d (split_append 46 (take j h) (drop (suc j) h)) }
+    record { before = split_at 46 (take j h); is = ap (split_at 46) (split_at_nth h j 0 l) ∙ rw d (split_append 46 (take j h) (drop (suc j) h)) }
 
 -- the place of a label
 pub record Begin (h : Bytes) (m : ℕ) : Type 0 where
@@ -202,7 +202,7 @@ unfolding labels
 more_labels h zero m l e = absurd (omega arith)
 more_labels h (suc j) m l e =
     let d : get_or h j 0 ≡ 46 = eqb-true (get_or h j 0) 46 (sym (boundary_suc j h) ∙ e) in
-    let s : split_at 46 h ≡ split_at 46 (take j h) ++ split_at 46 (drop (suc j) h) = ap (split_at 46) (split_at h j 0 l) ∙ rw d (split_append 46 (take j h) (drop (suc j) h)) in
+    let s : split_at 46 h ≡ split_at 46 (take j h) ++ split_at 46 (drop (suc j) h) = ap (split_at 46) (split_at_nth h j 0 l) ∙ rw d (split_append 46 (take j h) (drop (suc j) h)) in
     omega (arith, ap length s, length-append (split_at 46 (take j h)) (split_at 46 (drop (suc j) h)), split_some 46 (take j h))
 
 module _ (v h : Bytes) (e : ends_at_label v h ≡ true) where

@@ -1,6 +1,6 @@
 -- How many labels a host has, where they begin, and whether it ends in a text. Assumes nothing.
 use mathlib.Core.Path.{◌≡◌, refl, sym, ap, ◌∙◌}
-use mathlib.Core.Bool.{Bool, true, false, and-false, and-true, or_true}
+use mathlib.Core.Bool.{Bool, true, false, and-false, and-true, or-true}
 use mathlib.Core.List.{List, [], ◌∷◌, append-nil}
 use Prim.Native.Nat.{ℕ, zero, suc, ◌+◌, ◌-◌, ◌≤◌, ◌<◌}
 use native.Mathlib.Numerals.{add-one}
@@ -142,7 +142,7 @@ module _ (h : Bytes) (k : ℕ) where
 
   pub boundary_dot : get_or h (k - 1) 0 ≡ 46 → true ≡ is_boundary k h
   unfolding is_boundary
-  boundary_dot e = rw (eq-eqb _ _ e, or_true)
+  boundary_dot e = rw (eq-eqb _ _ e, or-true)
 
   pub boundary_none : (k ≡ 0 → ⊥) → (get_or h (k - 1) 0 ≡ 46 → ⊥) → false ≡ is_boundary k h
   unfolding is_boundary

@@ -3,7 +3,7 @@ use Prim.Native.Nat.{◌-◌}
 use lib.ListN.{length}
 use Rattle.byte_search.specs.code.Ranges.{outside}
 use Rattle.byte_search.proofs.RangeLaws.{SameEnd}
-use Rattle.byte_search.proofs.RangeLaws.{range_laws}
+use Rattle.byte_search.proofs.RangeLaws.{range_laws, here_laws}
 use Rattle.byte_search.proofs.first_in.Statement.{statement}
 use Rattle.byte_search.proofs.first_in.Tie as tie
 
@@ -38,7 +38,7 @@ first_in_spec =
     {- overflow_add-result -}
     (λ c. search range_laws)
     {- returns-then-n-lt64 -}
-    (λ c. search range_laws)
+    (λ c. search here_laws)
     {- overflow_add-i -}
     (λ c. search range_laws)
     {- loop-i-smaller -}
