@@ -8,7 +8,7 @@ use native.Mathlib.Omega.{arith}
 use lib.ListN.{length, take, drop, length-drop}
 use lib.Seq.{drop-length, take_all}
 use lib.Dec.{leb, ltb}
-use borrow.Author.Tests.{eq-eqb, ne_eqb, lt-leb, le-leb, lt-ltb, le-ltb, leb-true, ltb-true, ltb-false, not_true}
+use borrow.Author.Tests.{eq-eqb, ne_eqb, lt-leb, le-leb, lt-ltb, le-ltb, leb-true, ltb-true, ltb-false, not-true}
 use Rattle.ascii.specs.Ascii.{Bytes, if◌then◌else◌, ◌>>=◌, all, filter_by, split_at, last_of, join_with, begins_with, same, text}
 use Rattle.hosts.specs.Host.{labels, is_host, is_address}
 use Rattle.hosts.specs.code.Place.{Stands}
@@ -159,7 +159,7 @@ size_is rs a = go (filter_by (λ r. r.exception) rs) refl (filter_named (λ r. r
     go [] f b [] g = unfold prevailing suffix_size size_of max_labels most_labels in (rw (f, g))
     go [] f b (r ∷ ms) g = unfold prevailing suffix_size size_of in
         (let M = most r ms in
-        let x : M.rule.exception ≡ false = not_true M.rule.exception (M.passes (λ r. not r.exception) (rw g at (filter_empty (λ r. r.exception) rs f))) in
+        let x : M.rule.exception ≡ false = not-true M.rule.exception (M.passes (λ r. not r.exception) (rw g at (filter_empty (λ r. r.exception) rs f))) in
         rw (f, g, longest_none, max_none, M.is, x, M.count, ne_eqb (max_labels (r ∷ ms)) 0 (λ z. omega (arith, some_labels r ms (rw g at a)))))
 
 pub size_exception : (e m : ℕ) → 0 < e → e - 1 ≡ size_of e m

@@ -1,6 +1,6 @@
 -- One line of the table: what it finds for a host. Assumes nothing.
 use mathlib.Core.Path.{◌≡◌, refl, sym, ap, ap₂, ◌∙◌}
-use mathlib.Core.Bool.{Bool, true, false, ◌&&◌, and-false, or_true, and-eq-true_iff}
+use mathlib.Core.Bool.{Bool, true, false, ◌&&◌, and-false, or-true, and-eq-true_iff}
 use mathlib.Core.List.{List, [], ◌∷◌, ◌++◌}
 use mathlib.Core.Option.{none, some}
 use Prim.Native.Nat.{ℕ, suc, ◌+◌, ◌-◌, ◌≤◌, ◌<◌, max}
@@ -205,7 +205,7 @@ empty_skipped (b ∷ s) e = absurd (omega arith)
 
 pub comment_skipped : (s : Bytes) → begins_with (47 ∷ 47 ∷ []) s ≡ true → is_skipped s ≡ true
 unfolding is_skipped
-comment_skipped s g = rw (g, or_true)
+comment_skipped s g = rw (g, or-true)
 
 pub other_read : (s : Bytes) → (length s ≡ 0 → ⊥) → begins_with (47 ∷ 47 ∷ []) s ≡ false → is_skipped s ≡ false
 unfolding is_skipped

@@ -1,6 +1,6 @@
 -- The pass over the table, line by line. Assumes nothing.
 use mathlib.Core.Path.{◌≡◌, refl, sym, ap₂, ◌∙◌}
-use mathlib.Core.Bool.{Bool, true, false, ◌&&◌, not, and-false, or_true, and-eq-true_iff}
+use mathlib.Core.Bool.{Bool, true, false, ◌&&◌, not, and-false, or-true, and-eq-true_iff}
 use mathlib.Core.List.{List, [], ◌∷◌}
 use mathlib.Core.Option.{Option, none, some}
 use Prim.Native.Nat.{ℕ, suc, ◌+◌, ◌-◌, ◌≤◌, ◌<◌, max}
@@ -43,11 +43,11 @@ module _ (b : ℕ) where
 
   pub content_tab : b ≡ 9 → false ≡ in_content b
   unfolding in_content is_blank
-  content_tab e = rw (eq-eqb b 9 e, or_true, and-false)
+  content_tab e = rw (eq-eqb b 9 e, or-true, and-false)
 
   pub content_cr : b ≡ 13 → false ≡ in_content b
   unfolding in_content is_blank
-  content_cr e = rw (eq-eqb b 13 e, or_true, and-false)
+  content_cr e = rw (eq-eqb b 13 e, or-true, and-false)
 
   pub content_other : (b ≡ 10 → ⊥) → (b ≡ 32 → ⊥) → (b ≡ 9 → ⊥) → (b ≡ 13 → ⊥) → true ≡ in_content b
   unfolding in_content is_blank

@@ -1,6 +1,6 @@
 -- A line is a host where each of its bytes may stand behind the byte before it. Assumes nothing.
 use mathlib.Core.Path.{◌≡◌, refl, sym, ap, ◌∙◌}
-use mathlib.Core.Bool.{Bool, true, false, ◌&&◌, ◌||◌, or_true, and-eq-true_iff}
+use mathlib.Core.Bool.{Bool, true, false, ◌&&◌, ◌||◌, or-true, and-eq-true_iff}
 use mathlib.Core.List.{[], ◌∷◌, ◌++◌}
 use Prim.Native.Nat.{ℕ, suc, ◌+◌, ◌-◌, ◌≤◌, ◌<◌}
 use native.Mathlib.Omega.{arith}
@@ -49,7 +49,7 @@ lf_plain = refl
 
 hyphen_label : (b : ℕ) → b ≡ 45 → is_label_byte b ≡ true
 unfolding is_label_byte
-hyphen_label b e = rw (eq-eqb b 45 e, or_true)
+hyphen_label b e = rw (eq-eqb b 45 e, or-true)
 
 low_plain : (b : ℕ) → b ≤ 32 → is_alphanumeric b ≡ false
 unfolding is_alphanumeric is_letter is_upper is_digit

@@ -1,6 +1,6 @@
 -- Comments, and the pass over lines that find nothing. Assumes nothing.
 use mathlib.Core.Path.{◌≡◌, refl, sym, ◌∙◌}
-use mathlib.Core.Bool.{Bool, true, false, ◌&&◌, ◌||◌, not, or_true}
+use mathlib.Core.Bool.{Bool, true, false, ◌&&◌, ◌||◌, not, or-true}
 use mathlib.Core.List.{[]}
 use Prim.Native.Nat.{ℕ, suc, ◌+◌, ◌-◌, ◌≤◌, ◌<◌, ◌*◌, ◌^◌}
 use native.Mathlib.Omega.{arith}
@@ -70,7 +70,7 @@ module _ (x y : Bool) {a : Bool} (e : a ≡ x) where
 
   module _ {b : Bool} (g : b ≡ y) where
     pub idle_deep : b ≡ true → false ≡ not (x || y)
-    idle_deep f = rw (← g, f, or_true)
+    idle_deep f = rw (← g, f, or-true)
 
     pub idle_yes : a ≡ false → b ≡ false → true ≡ not (x || y)
     idle_yes f h = rw (← e, f, ← g, h)

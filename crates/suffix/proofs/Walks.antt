@@ -1,6 +1,6 @@
 -- The loop over the bytes of lines that find nothing. Assumes nothing.
 use mathlib.Core.Path.{◌≡◌, refl, sym, ap, ◌∙◌}
-use mathlib.Core.Bool.{Bool, true, false, ◌&&◌, ◌||◌, or_true}
+use mathlib.Core.Bool.{Bool, true, false, ◌&&◌, ◌||◌, or-true}
 use mathlib.Core.List.{◌∷◌}
 use Prim.Native.Nat.{ℕ, suc, ◌+◌, ◌-◌, ◌*◌, ◌≤◌, ◌<◌}
 use native.Mathlib.Omega.{arith}
@@ -79,7 +79,7 @@ follow last a b p k A (is_alike e) h n = follow_plain a b e
 follow last a b p k A (is_plain_lem e f) h n = follow_plain a b e
 follow last a b p k (is_alike e) (is_hyphen f) h n = follow_hyphen a b f (rw e)
 follow last a b p k (is_plain_lem e g) (is_hyphen f) h n = follow_hyphen a b f (rw e)
-follow last a b p k (is_hyphen e) (is_hyphen f) h n = follow_hyphen a b f (rw (eq-eqb a 45 e, or_true))
+follow last a b p k (is_hyphen e) (is_hyphen f) h n = follow_hyphen a b f (rw (eq-eqb a 45 e, or-true))
 follow last a b p k (is_dot e) (is_hyphen f) h n = absurd (omega arith)
 follow last a b p k (is_lf e) (is_hyphen f) h n = absurd (omega arith)
 follow last a b p k is_rest (is_hyphen f) h n = absurd (omega arith)

@@ -8,31 +8,31 @@ use Rattle.suffix.proofs.Laws.{laws}
 use Rattle.suffix.proofs.short_content_end.Statement.{statement}
 use Rattle.suffix.proofs.short_content_end.Tie as tie
 
-abbrev invariant-loop : tie.invariant-loop
-invariant-loop s from i₀ i = i + length (take_while in_content (drop i s)) ≡ from + length (take_while in_content (drop from s))
+abbrev invariant-loop-i : tie.invariant-loop-i
+invariant-loop-i s from i₀ i = i + length (take_while in_content (drop i s)) ≡ from + length (take_while in_content (drop from s))
 
-abbrev decreases-loop : tie.decreases-loop
-decreases-loop s from i₀ i = length s - i
+abbrev decreases-loop-i : tie.decreases-loop-i
+decreases-loop-i s from i₀ i = length s - i
 
-pub short-content-end-spec : {M : Type 1} → statement M
-short-content-end-spec =
+pub short_content_end_spec : {M : Type 1} → statement M
+short_content_end_spec =
     tie.close
     (tie.spec
-    invariant-loop
-    decreases-loop
-    {- loop-holds -}
+    invariant-loop-i
+    decreases-loop-i
+    {- loop-i-init -}
     (λ c. search laws)
-    {- shared-slice-read-in-content -}
+    {- bounds-s-i -}
     (λ c. search laws)
-    {- in-content-requires -}
+    {- in_content-requires -}
     (λ c κs. search laws)
-    {- add-i -}
+    {- overflow_add-i -}
     (λ c. search laws)
-    {- loop-less -}
+    {- loop-i-smaller -}
     (λ c. search laws)
-    {- loop-again -}
+    {- loop-i-preserved -}
+    (λ c. search laws)
+    {- returns-else-in_content -}
     (λ c. search laws)
     {- returns -}
-    (λ c. search laws)
-    {- returns-2 -}
     (λ c. search laws))

@@ -3,27 +3,27 @@ use Rattle.suffix.proofs.KindLaws.{kind_laws}
 use Rattle.suffix.proofs.skips.advance.Statement.{statement}
 use Rattle.suffix.proofs.skips.advance.Tie as tie
 
-pub advance-spec : {M : Type 1} → statement M
-advance-spec =
+pub advance_spec : {M : Type 1} → statement M
+advance_spec =
     tie.close
     (tie.spec
-    {- shared-slice-read-kind -}
+    {- bounds-s-at -}
     (λ c. search kind_laws)
-    {- kind-requires -}
+    {- kind-k-requires -}
     (λ c κs. search kind_laws)
     {- wide-requires -}
     (λ c κs. search kind_laws)
     {- wide-requires-2 -}
     (λ c κs. search kind_laws)
-    {- mul-sum -}
+    {- overflow_mul-sum -}
     (λ c. search kind_laws)
-    {- add-sum -}
+    {- overflow_add-sum -}
     (λ c. search kind_laws)
-    {- returns -}
+    {- returns-then-sum-gt24 -}
     (λ c. search kind_laws)
-    {- add-line-start -}
+    {- overflow_add-at -}
     (λ c. search kind_laws)
-    {- line-start-requires -}
+    {- line_start-requires -}
     (λ c κs. search kind_laws)
-    {- returns-2 -}
+    {- returns -}
     (λ c. search kind_laws))

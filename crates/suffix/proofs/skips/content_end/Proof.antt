@@ -7,35 +7,35 @@ use Rattle.suffix.proofs.LineEnds.{content_first, content_laws, content_turn}
 use Rattle.suffix.proofs.skips.content_end.Statement.{statement}
 use Rattle.suffix.proofs.skips.content_end.Tie as tie
 
-abbrev invariant-loop : tie.invariant-loop
-invariant-loop s from i₀ i = SameEnd in_content s from i
+abbrev invariant-loop-i : tie.invariant-loop-i
+invariant-loop-i s from i₀ i = SameEnd in_content s from i
 
-abbrev decreases-loop : tie.decreases-loop
-decreases-loop s from i₀ i = length s - i
+abbrev decreases-loop-i : tie.decreases-loop-i
+decreases-loop-i s from i₀ i = length s - i
 
-pub content-end-spec : {M : Type 1} → statement M
-content-end-spec =
+pub content_end_spec : {M : Type 1} → statement M
+content_end_spec =
     tie.close
     (tie.spec
-    invariant-loop
-    decreases-loop
-    {- first-in-requires -}
+    invariant-loop-i
+    decreases-loop-i
+    {- first_in-i-requires -}
     (λ c κs. search content_laws)
-    {- loop-holds -}
+    {- loop-i-init -}
     (λ c. search content_first)
-    {- shared-slice-read-in-content -}
+    {- bounds-s-i -}
     (λ c. search content_laws)
-    {- in-content-requires -}
+    {- in_content-requires -}
     (λ c κs. search content_laws)
-    {- add-soon-in -}
+    {- overflow_add-i -}
     (λ c. search content_laws)
-    {- soon-in-requires -}
+    {- soon_in-i-requires -}
     (λ c κs. search content_laws)
-    {- loop-less -}
+    {- loop-i-smaller -}
     (λ c. search content_laws)
-    {- loop-again -}
+    {- loop-i-preserved -}
     (λ c. search content_turn)
-    {- returns -}
+    {- returns-else-in_content -}
     (λ c. search content_laws)
-    {- returns-2 -}
+    {- returns -}
     (λ c. search content_laws))

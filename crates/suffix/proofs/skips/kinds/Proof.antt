@@ -5,33 +5,33 @@ use Rattle.suffix.proofs.KindLaws.{kind_laws}
 use Rattle.suffix.proofs.skips.kinds.Statement.{statement}
 use Rattle.suffix.proofs.skips.kinds.Tie as tie
 
-abbrev invariant-loop : tie.invariant-loop
-invariant-loop classes host last kinds₀ i₀ kinds i = Filled classes last kinds i
+abbrev invariant-loop-i : tie.invariant-loop-i
+invariant-loop-i classes host last kinds₀ i₀ kinds i = Filled classes last kinds i
 
-abbrev decreases-loop : tie.decreases-loop
-decreases-loop classes host last kinds₀ i₀ kinds i = 256 - i
+abbrev decreases-loop-i : tie.decreases-loop-i
+decreases-loop-i classes host last kinds₀ i₀ kinds i = 256 - i
 
-pub kinds-spec : {M : Type 1} → statement M
-kinds-spec =
+pub kinds_spec : {M : Type 1} → statement M
+kinds_spec =
     tie.close
     (tie.spec
-    invariant-loop
-    decreases-loop
-    {- last-byte-requires -}
+    invariant-loop-i
+    decreases-loop-i
+    {- last_byte-last-requires -}
     (λ c κs. search kind_laws)
-    {- loop-holds -}
+    {- loop-i-init -}
     (λ c. search kind_laws)
-    {- cast-kind-of -}
+    {- overflow_cast-i -}
     (λ c. search kind_laws)
-    {- kind-of-requires -}
+    {- kind_of-requires -}
     (λ c κs. search kind_laws)
-    {- array-write-kinds -}
+    {- bounds-kinds-i -}
     (λ c. search kind_laws)
-    {- add-i -}
+    {- overflow_add-i -}
     (λ c. search kind_laws)
-    {- loop-less -}
+    {- loop-i-smaller -}
     (λ c. search kind_laws)
-    {- loop-again -}
+    {- loop-i-preserved -}
     (λ c. search kind_laws)
     {- returns -}
     (λ c. search kind_laws))

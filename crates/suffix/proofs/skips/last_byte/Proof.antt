@@ -3,5 +3,5 @@ use Rattle.suffix.proofs.KindLaws.{kind_laws}
 use Rattle.suffix.proofs.skips.last_byte.Statement.{statement}
 use Rattle.suffix.proofs.skips.last_byte.Tie as tie
 
-pub last-byte-spec : {M : Type 1} → statement M
-last-byte-spec = tie.close (tie.spec {- returns -} (λ c. search kind_laws) {- sub-result -} (λ c. search kind_laws) {- shared-slice-read-result -} (λ c. search kind_laws) {- returns-2 -} (λ c. search kind_laws))
+pub last_byte_spec : {M : Type 1} → statement M
+last_byte_spec = tie.close (tie.spec {- returns-then-s-eq0 -} (λ c. search kind_laws) {- overflow_sub-result -} (λ c. search kind_laws) {- bounds-s-s -} (λ c. search kind_laws) {- returns -} (λ c. search kind_laws))

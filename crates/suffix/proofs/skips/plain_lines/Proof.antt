@@ -6,77 +6,77 @@ use Rattle.suffix.proofs.Walks.{walk_laws}
 use Rattle.suffix.proofs.skips.plain_lines.Statement.{statement}
 use Rattle.suffix.proofs.skips.plain_lines.Tie as tie
 
-abbrev invariant-loop : tie.invariant-loop
-invariant-loop kinds host s from start₀ before₀ i₀ start before i = Turn host s kinds from start i before
+abbrev invariant-loop-i : tie.invariant-loop-i
+invariant-loop-i kinds host s from start₀ before₀ i₀ start before i = Turn host s kinds from start i before
 
-abbrev decreases-loop : tie.decreases-loop
-decreases-loop kinds host s from start₀ before₀ i₀ start before i = length s - i
+abbrev decreases-loop-i : tie.decreases-loop-i
+decreases-loop-i kinds host s from start₀ before₀ i₀ start before i = length s - i
 
-pub plain-lines-spec : {M : Type 1} → statement M
-plain-lines-spec =
+pub plain_lines_spec : {M : Type 1} → statement M
+plain_lines_spec =
     tie.close
     (tie.spec
-    invariant-loop
-    decreases-loop
-    {- loop-holds -}
+    invariant-loop-i
+    decreases-loop-i
+    {- loop-i-init -}
     (λ c. search walk_laws)
-    {- sub-loop -}
+    {- overflow_sub-s -}
     (λ c. search walk_laws)
-    {- sub-if1 -}
+    {- overflow_sub-i -}
     (λ c. search walk_laws)
-    {- returns -}
+    {- returns-then-i-start-ge60 -}
     (λ c. search walk_laws)
-    {- add-x -}
+    {- overflow_add-x -}
     (λ c. search walk_laws)
-    {- add-y -}
+    {- overflow_add-y -}
     (λ c. search walk_laws)
-    {- add-z -}
+    {- overflow_add-z -}
     (λ c. search walk_laws)
-    {- add-next -}
+    {- overflow_add-next -}
     (λ c. search walk_laws)
-    {- advance-requires -}
+    {- advance-one-requires -}
     (λ c κs. search walk_laws)
-    {- enum-known-one -}
+    {- enum_known-one -}
     (λ c. search walk_laws)
-    {- enum-told -}
+    {- enum_told-1 -}
     (λ c. search walk_laws)
     {- halt-requires -}
     (λ c κs. search walk_laws)
-    {- returns-2 -}
+    {- returns-in_default -}
     (λ c. search walk_laws)
-    {- advance-requires-2 -}
+    {- advance-two-requires -}
     (λ c κs. search walk_laws)
-    {- enum-known-two -}
+    {- enum_known-two -}
     (λ c. search walk_laws)
-    {- enum-told-2 -}
+    {- enum_told-in_default-two -}
     (λ c. search walk_laws)
-    {- halt-requires-2 -}
+    {- halt-requires-in_default-two -}
     (λ c κs. search walk_laws)
-    {- returns-3 -}
+    {- returns-in_default-two -}
     (λ c. search walk_laws)
-    {- advance-requires-3 -}
+    {- advance-three-requires -}
     (λ c κs. search walk_laws)
-    {- enum-known-three -}
+    {- enum_known-three -}
     (λ c. search walk_laws)
-    {- enum-told-3 -}
+    {- enum_told-in_default-three -}
     (λ c. search walk_laws)
-    {- halt-requires-3 -}
+    {- halt-requires-in_default-three -}
     (λ c κs. search walk_laws)
-    {- returns-4 -}
+    {- returns-in_default-three -}
     (λ c. search walk_laws)
-    {- advance-requires-4 -}
+    {- advance-four-requires -}
     (λ c κs. search walk_laws)
-    {- enum-known-four -}
+    {- enum_known-four -}
     (λ c. search walk_laws)
-    {- enum-told-4 -}
+    {- enum_told-in_default-four -}
     (λ c. search walk_laws)
-    {- halt-requires-4 -}
+    {- halt-requires-in_default-four -}
     (λ c κs. search walk_laws)
-    {- returns-5 -}
+    {- returns-in_default-four -}
     (λ c. search walk_laws)
-    {- loop-less -}
+    {- loop-i-smaller -}
     (λ c. search walk_laws)
-    {- loop-again -}
+    {- loop-i-preserved -}
     (λ c. search walk_laws)
-    {- returns-6 -}
+    {- returns -}
     (λ c. search walk_laws))
