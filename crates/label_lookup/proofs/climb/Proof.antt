@@ -7,41 +7,41 @@ use Rattle.label_lookup.proofs.ClimbLaws.{climb_laws}
 use Rattle.label_lookup.proofs.climb.Statement.{statement}
 use Rattle.label_lookup.proofs.climb.Tie as tie
 
-abbrev invariant-loop : tie.invariant-loop
-invariant-loop host depth w n k₀ k = Climb host (normal (labels w)) depth k
+abbrev invariant-loop-k : tie.invariant-loop-k
+invariant-loop-k host depth w n k₀ k = Climb host (normal (labels w)) depth k
 
-abbrev decreases-loop : tie.decreases-loop
-decreases-loop host depth w n k₀ k = n - k
+abbrev decreases-loop-k : tie.decreases-loop-k
+decreases-loop-k host depth w n k₀ k = n - k
 
-pub climb-spec : {M : Type 1} → statement M
-climb-spec =
+pub climb_spec : {M : Type 1} → statement M
+climb_spec =
     tie.close
     (tie.spec
-    invariant-loop
-    decreases-loop
-    {- label-count-requires -}
+    invariant-loop-k
+    decreases-loop-k
+    {- label_count-n-requires -}
     (λ c κs. search climb_laws)
-    {- loop-holds -}
+    {- loop-k-init -}
     (λ c. search climb_laws)
-    {- add-last-labels -}
+    {- overflow_add-k -}
     (λ c. search climb_laws)
-    {- last-labels-requires -}
+    {- last_labels-at-requires -}
     (λ c κs. search climb_laws)
-    {- sub-name-deeper -}
+    {- slice_bounds-name_deeper-count -}
     (λ c. search climb_laws)
-    {- part-name-deeper-start -}
+    {- slice_bounds-name_deeper-start -}
     (λ c. search climb_laws)
-    {- part-name-deeper-end -}
+    {- slice_bounds-name_deeper-end -}
     (λ c. search climb_laws)
-    {- name-deeper-requires -}
+    {- name_deeper-requires -}
     (λ c κs. search climb_laws)
-    {- add-k -}
+    {- overflow_add-k-then-name_deeper -}
     (λ c. search climb_laws)
-    {- loop-less -}
+    {- loop-k-smaller -}
     (λ c. search climb_laws)
-    {- loop-again -}
+    {- loop-k-preserved -}
+    (λ c. search climb_laws)
+    {- returns-else-name_deeper -}
     (λ c. search climb_laws)
     {- returns -}
-    (λ c. search climb_laws)
-    {- returns-2 -}
     (λ c. search climb_laws))

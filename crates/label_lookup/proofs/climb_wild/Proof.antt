@@ -8,41 +8,41 @@ use Rattle.label_lookup.proofs.ClimbLaws.{climb_laws}
 use Rattle.label_lookup.proofs.climb_wild.Statement.{statement}
 use Rattle.label_lookup.proofs.climb_wild.Tie as tie
 
-abbrev invariant-loop : tie.invariant-loop
-invariant-loop host depth v n k₀ k = Climb host (normal ((42 ∷ []) ∷ labels v)) depth k
+abbrev invariant-loop-k : tie.invariant-loop-k
+invariant-loop-k host depth v n k₀ k = Climb host (normal ((42 ∷ []) ∷ labels v)) depth k
 
-abbrev decreases-loop : tie.decreases-loop
-decreases-loop host depth v n k₀ k = n - k
+abbrev decreases-loop-k : tie.decreases-loop-k
+decreases-loop-k host depth v n k₀ k = n - k
 
-pub climb-wild-spec : {M : Type 1} → statement M
-climb-wild-spec =
+pub climb_wild_spec : {M : Type 1} → statement M
+climb_wild_spec =
     tie.close
     (tie.spec
-    invariant-loop
-    decreases-loop
-    {- label-count-requires -}
+    invariant-loop-k
+    decreases-loop-k
+    {- label_count-n-requires -}
     (λ c κs. search climb_laws)
-    {- loop-holds -}
+    {- loop-k-init -}
     (λ c. search climb_laws)
-    {- add-last-labels -}
+    {- overflow_add-k -}
     (λ c. search climb_laws)
-    {- last-labels-requires -}
+    {- last_labels-at-requires -}
     (λ c κs. search climb_laws)
-    {- sub-wild-goes-deeper -}
+    {- slice_bounds-wild_goes_deeper-count -}
     (λ c. search climb_laws)
-    {- part-wild-goes-deeper-start -}
+    {- slice_bounds-wild_goes_deeper-start -}
     (λ c. search climb_laws)
-    {- part-wild-goes-deeper-end -}
+    {- slice_bounds-wild_goes_deeper-end -}
     (λ c. search climb_laws)
-    {- wild-goes-deeper-requires -}
+    {- wild_goes_deeper-requires -}
     (λ c κs. search climb_laws)
-    {- add-k -}
+    {- overflow_add-k-then-wild_goes_deeper -}
     (λ c. search climb_laws)
-    {- loop-less -}
+    {- loop-k-smaller -}
     (λ c. search climb_laws)
-    {- loop-again -}
+    {- loop-k-preserved -}
+    (λ c. search climb_laws)
+    {- returns-else-wild_goes_deeper -}
     (λ c. search climb_laws)
     {- returns -}
-    (λ c. search climb_laws)
-    {- returns-2 -}
     (λ c. search climb_laws))

@@ -6,55 +6,55 @@ use Rattle.label_lookup.proofs.PassLaws.{pass_laws}
 use Rattle.label_lookup.proofs.deep_lines.Statement.{statement}
 use Rattle.label_lookup.proofs.deep_lines.Tie as tie
 
-abbrev invariant-loop : tie.invariant-loop
-invariant-loop classes kinds host last table exception₀ most₀ depth₀ start₀ at₀ exception most depth start at = Round classes kinds host table exception most depth start at
+abbrev invariant-loop-at : tie.invariant-loop-at
+invariant-loop-at classes kinds host last table exception₀ most₀ depth₀ start₀ at₀ exception most depth start at = Round classes kinds host table exception most depth start at
 
-abbrev decreases-loop : tie.decreases-loop
-decreases-loop classes kinds host last table exception₀ most₀ depth₀ start₀ at₀ exception most depth start at = length table - at
+abbrev decreases-loop-at : tie.decreases-loop-at
+decreases-loop-at classes kinds host last table exception₀ most₀ depth₀ start₀ at₀ exception most depth start at = length table - at
 
-pub deep-lines-spec : {M : Type 1} → statement M
-deep-lines-spec =
+pub deep_lines_spec : {M : Type 1} → statement M
+deep_lines_spec =
     tie.close
     (tie.spec
-    invariant-loop
-    decreases-loop
-    {- idle-lines-requires -}
+    invariant-loop-at
+    decreases-loop-at
+    {- idle_lines-at-requires -}
     (λ c κs. search pass_laws)
-    {- loop-holds -}
+    {- loop-at-init -}
     (λ c. search pass_laws)
-    {- content-end-requires -}
+    {- short_content_end-to-requires -}
     (λ c κs. search pass_laws)
-    {- sub-line-finds -}
+    {- slice_bounds-line_finds-count -}
     (λ c. search pass_laws)
-    {- part-line-finds-start -}
+    {- slice_bounds-line_finds-start -}
     (λ c. search pass_laws)
-    {- part-line-finds-end -}
+    {- slice_bounds-line_finds-end -}
     (λ c. search pass_laws)
-    {- line-finds-requires -}
+    {- line_finds-line-requires -}
     (λ c κs. search pass_laws)
-    {- enum-known-line -}
+    {- enum_known-line -}
     (λ c. search pass_laws)
-    {- enum-told -}
+    {- enum_told-1 -}
+    (λ c. search pass_laws)
+    {- returns-in_default -}
+    (λ c. search pass_laws)
+    {- larger-exception-requires -}
+    (λ c κs. search pass_laws)
+    {- larger-most-requires -}
+    (λ c κs. search pass_laws)
+    {- deeper_tail-start-requires -}
+    (λ c κs. search pass_laws)
+    {- larger-depth-requires -}
+    (λ c κs. search pass_laws)
+    {- short_end-next-requires -}
+    (λ c κs. search pass_laws)
+    {- overflow_add-next -}
+    (λ c. search pass_laws)
+    {- idle_lines-at-requires-in-loop-at -}
+    (λ c κs. search pass_laws)
+    {- loop-at-smaller -}
+    (λ c. search pass_laws)
+    {- loop-at-preserved -}
     (λ c. search pass_laws)
     {- returns -}
-    (λ c. search pass_laws)
-    {- larger-requires -}
-    (λ c κs. search pass_laws)
-    {- larger-requires-2 -}
-    (λ c κs. search pass_laws)
-    {- deeper-tail-requires -}
-    (λ c κs. search pass_laws)
-    {- larger-requires-3 -}
-    (λ c κs. search pass_laws)
-    {- short-end-requires -}
-    (λ c κs. search pass_laws)
-    {- add-next -}
-    (λ c. search pass_laws)
-    {- idle-lines-requires-2 -}
-    (λ c κs. search pass_laws)
-    {- loop-less -}
-    (λ c. search pass_laws)
-    {- loop-again -}
-    (λ c. search pass_laws)
-    {- returns-2 -}
     (λ c. search pass_laws))

@@ -3,19 +3,19 @@ use Rattle.label_lookup.proofs.PassLaws.{table_laws}
 use Rattle.label_lookup.proofs.deep_rules.Statement.{statement}
 use Rattle.label_lookup.proofs.deep_rules.Tie as tie
 
-pub deep-rules-spec : {M : Type 1} → statement M
-deep-rules-spec =
+pub deep_rules_spec : {M : Type 1} → statement M
+deep_rules_spec =
     tie.close
     (tie.spec
-    {- returns -}
+    {- returns-then-table-gt1048576 -}
     (λ c. search table_laws)
-    {- classes-requires -}
+    {- classes-classes-requires -}
     (λ c κs. search table_laws)
-    {- kinds-for-requires -}
+    {- kinds_for-kinds-requires -}
     (λ c κs. search table_laws)
-    {- last-labels-requires -}
+    {- last_labels-last-requires -}
     (λ c κs. search table_laws)
-    {- deep-lines-requires -}
+    {- deep_lines-requires -}
     (λ c κs. search table_laws)
-    {- returns-2 -}
+    {- returns -}
     (λ c. search table_laws))

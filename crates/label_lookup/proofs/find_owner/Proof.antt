@@ -3,27 +3,27 @@ use Rattle.label_lookup.proofs.OwnerLaws.{owner_laws}
 use Rattle.label_lookup.proofs.find_owner.Statement.{statement}
 use Rattle.label_lookup.proofs.find_owner.Tie as tie
 
-pub find-owner-spec : {M : Type 1} → statement M
-find-owner-spec =
+pub find_owner_spec : {M : Type 1} → statement M
+find_owner_spec =
     tie.close
     (tie.spec
-    {- look-up-requires -}
+    {- look_up-found-requires -}
     (λ c κs. search owner_laws)
-    {- enum-known-found -}
+    {- enum_known-found -}
     (λ c. search owner_laws)
-    {- enum-told -}
+    {- enum_told-1 -}
+    (λ c. search owner_laws)
+    {- returns-in_default -}
+    (λ c. search owner_laws)
+    {- slice_bounds-find_span-count -}
+    (λ c. search owner_laws)
+    {- slice_bounds-find_span-start -}
+    (λ c. search owner_laws)
+    {- slice_bounds-find_span-end -}
+    (λ c. search owner_laws)
+    {- find_span-span-requires -}
+    (λ c κs. search owner_laws)
+    {- returns-then-deeper -}
     (λ c. search owner_laws)
     {- returns -}
-    (λ c. search owner_laws)
-    {- sub-find-span -}
-    (λ c. search owner_laws)
-    {- part-find-span-start -}
-    (λ c. search owner_laws)
-    {- part-find-span-end -}
-    (λ c. search owner_laws)
-    {- find-span-requires -}
-    (λ c κs. search owner_laws)
-    {- returns-2 -}
-    (λ c. search owner_laws)
-    {- returns-3 -}
     (λ c. search owner_laws))

@@ -3,5 +3,5 @@ use Rattle.label_lookup.proofs.Laws.{host_laws}
 use Rattle.label_lookup.proofs.is_host.Statement.{statement}
 use Rattle.label_lookup.proofs.is_host.Tie as tie
 
-pub is-host-spec : {M : Type 1} → statement M
-is-host-spec = tie.close (tie.spec {- is-host-by-requires -} (λ c κs. search host_laws) {- returns -} (λ c. search host_laws))
+pub is_host_spec : {M : Type 1} → statement M
+is_host_spec = tie.close (tie.spec {- is_host_by-requires -} (λ c κs. search host_laws) {- returns -} (λ c. search host_laws))

@@ -3,19 +3,17 @@ use Rattle.label_lookup.proofs.Laws.{laws}
 use Rattle.label_lookup.proofs.line_best.Statement.{statement}
 use Rattle.label_lookup.proofs.line_best.Tie as tie
 
-pub line-best-spec : {M : Type 1} → statement M
-line-best-spec =
+pub line_best_spec : {M : Type 1} → statement M
+line_best_spec =
     tie.close
     (tie.spec
+    {- returns-then-w-eq0 -}
+    (λ c. search laws)
+    {- begins_with-requires -}
+    (λ c κs. search laws)
+    {- returns-then-begins_with -}
+    (λ c. search laws)
+    {- rule_best-requires -}
+    (λ c κs. search laws)
     {- returns -}
-    (λ c. search laws)
-    {- slice-aggregate-begins-with -}
-    (λ c. search laws)
-    {- begins-with-requires -}
-    (λ c κs. search laws)
-    {- returns-2 -}
-    (λ c. search laws)
-    {- rule-best-requires -}
-    (λ c κs. search laws)
-    {- returns-3 -}
     (λ c. search laws))

@@ -3,53 +3,45 @@ use Rattle.label_lookup.proofs.ClimbLaws.{climb_laws}
 use Rattle.label_lookup.proofs.line_depth.Statement.{statement}
 use Rattle.label_lookup.proofs.line_depth.Tie as tie
 
-pub line-depth-spec : {M : Type 1} → statement M
-line-depth-spec =
+pub line_depth_spec : {M : Type 1} → statement M
+line_depth_spec =
     tie.close
     (tie.spec
-    {- returns -}
+    {- returns-then-w-eq0 -}
     (λ c. search climb_laws)
-    {- slice-aggregate-begins-with -}
-    (λ c. search climb_laws)
-    {- begins-with-requires -}
+    {- begins_with-requires -}
     (λ c κs. search climb_laws)
-    {- returns-2 -}
-    (λ c. search climb_laws)
-    {- slice-aggregate-equal -}
+    {- returns-then-begins_with -}
     (λ c. search climb_laws)
     {- equal-requires -}
     (λ c κs. search climb_laws)
-    {- returns-3 -}
+    {- returns-then-equal -}
     (λ c. search climb_laws)
-    {- slice-aggregate-begins-with-2 -}
-    (λ c. search climb_laws)
-    {- begins-with-requires-2 -}
+    {- begins_with-requires-2 -}
     (λ c κs. search climb_laws)
-    {- sub-wild-depth -}
+    {- slice_bounds-wild_depth-count -}
     (λ c. search climb_laws)
-    {- part-wild-depth-start -}
+    {- slice_bounds-wild_depth-start -}
     (λ c. search climb_laws)
-    {- part-wild-depth-end -}
+    {- slice_bounds-wild_depth-end -}
     (λ c. search climb_laws)
-    {- wild-depth-requires -}
+    {- wild_depth-requires -}
     (λ c κs. search climb_laws)
-    {- returns-4 -}
+    {- returns-then-begins_with-2 -}
     (λ c. search climb_laws)
-    {- slice-aggregate-begins-with-3 -}
-    (λ c. search climb_laws)
-    {- begins-with-requires-3 -}
+    {- begins_with-requires-3 -}
     (λ c κs. search climb_laws)
-    {- sub-name-depth -}
+    {- slice_bounds-name_depth-count -}
     (λ c. search climb_laws)
-    {- part-name-depth-start -}
+    {- slice_bounds-name_depth-start -}
     (λ c. search climb_laws)
-    {- part-name-depth-end -}
+    {- slice_bounds-name_depth-end -}
     (λ c. search climb_laws)
-    {- name-depth-requires -}
+    {- name_depth-requires -}
     (λ c κs. search climb_laws)
-    {- returns-5 -}
+    {- returns-then-begins_with-3 -}
     (λ c. search climb_laws)
-    {- name-depth-requires-2 -}
+    {- name_depth-requires-2 -}
     (λ c κs. search climb_laws)
-    {- returns-6 -}
+    {- returns -}
     (λ c. search climb_laws))

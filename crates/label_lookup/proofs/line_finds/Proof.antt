@@ -3,25 +3,25 @@ use Rattle.label_lookup.proofs.PassLaws.{pass_laws}
 use Rattle.label_lookup.proofs.line_finds.Statement.{statement}
 use Rattle.label_lookup.proofs.line_finds.Tie as tie
 
-pub line-finds-spec : {M : Type 1} → statement M
-line-finds-spec =
+pub line_finds_spec : {M : Type 1} → statement M
+line_finds_spec =
     tie.close
     (tie.spec
-    {- line-best-requires -}
+    {- line_best-line-requires -}
     (λ c κs. search pass_laws)
-    {- enum-known-line -}
+    {- enum_known-line -}
     (λ c. search pass_laws)
-    {- enum-told -}
+    {- enum_told-1 -}
     (λ c. search pass_laws)
+    {- returns-in_default -}
+    (λ c. search pass_laws)
+    {- slice_bounds-line_depth-count -}
+    (λ c. search pass_laws)
+    {- slice_bounds-line_depth-start -}
+    (λ c. search pass_laws)
+    {- slice_bounds-line_depth-end -}
+    (λ c. search pass_laws)
+    {- line_depth-requires -}
+    (λ c κs. search pass_laws)
     {- returns -}
-    (λ c. search pass_laws)
-    {- sub-line-depth -}
-    (λ c. search pass_laws)
-    {- part-line-depth-start -}
-    (λ c. search pass_laws)
-    {- part-line-depth-end -}
-    (λ c. search pass_laws)
-    {- line-depth-requires -}
-    (λ c κs. search pass_laws)
-    {- returns-2 -}
     (λ c. search pass_laws))

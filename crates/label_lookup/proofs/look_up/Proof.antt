@@ -3,35 +3,35 @@ use Rattle.label_lookup.proofs.ClimbLaws.{lookup_laws}
 use Rattle.label_lookup.proofs.look_up.Statement.{statement}
 use Rattle.label_lookup.proofs.look_up.Tie as tie
 
-pub look-up-spec : {M : Type 1} → statement M
-look-up-spec =
+pub look_up_spec : {M : Type 1} → statement M
+look_up_spec =
     tie.close
     (tie.spec
-    {- deep-rules-requires -}
+    {- deep_rules-found-requires -}
     (λ c κs. search lookup_laws)
-    {- enum-known-found -}
+    {- enum_known-found -}
     (λ c. search lookup_laws)
-    {- enum-told -}
+    {- enum_told-1 -}
     (λ c. search lookup_laws)
-    {- returns -}
+    {- returns-in_default -}
     (λ c. search lookup_laws)
-    {- is-host-requires -}
+    {- is_host-requires -}
     (λ c κs. search lookup_laws)
-    {- is-address-requires -}
+    {- is_address-requires -}
     (λ c κs. search lookup_laws)
-    {- returns-2 -}
+    {- returns-then-is_address -}
     (λ c. search lookup_laws)
-    {- suffix-size-requires -}
+    {- suffix_size-n-requires -}
     (λ c κs. search lookup_laws)
-    {- label-count-requires -}
+    {- label_count-requires -}
     (λ c κs. search lookup_laws)
-    {- add-last-labels -}
+    {- overflow_add-n -}
     (λ c. search lookup_laws)
-    {- last-labels-requires -}
+    {- last_labels-requires -}
     (λ c κs. search lookup_laws)
-    {- returns-3 -}
+    {- returns-then-n-label_count -}
     (λ c. search lookup_laws)
-    {- returns-4 -}
+    {- returns-else-n-label_count -}
     (λ c. search lookup_laws)
-    {- returns-5 -}
+    {- returns-else-is_host -}
     (λ c. search lookup_laws))

@@ -3,49 +3,43 @@ use Rattle.label_lookup.proofs.Laws.{laws}
 use Rattle.label_lookup.proofs.rule_best.Statement.{statement}
 use Rattle.label_lookup.proofs.rule_best.Tie as tie
 
-pub rule-best-spec : {M : Type 1} → statement M
-rule-best-spec =
+pub rule_best_spec : {M : Type 1} → statement M
+rule_best_spec =
     tie.close
     (tie.spec
-    {- is-host-requires -}
+    {- is_host-requires -}
     (λ c κs. search laws)
-    {- host-rule-requires -}
+    {- host_rule-requires -}
     (λ c κs. search laws)
-    {- returns -}
-    (λ c. search laws)
-    {- slice-aggregate-equal -}
+    {- returns-then-is_host -}
     (λ c. search laws)
     {- equal-requires -}
     (λ c κs. search laws)
-    {- returns-2 -}
+    {- returns-then-equal -}
     (λ c. search laws)
-    {- slice-aggregate-begins-with -}
-    (λ c. search laws)
-    {- begins-with-requires -}
+    {- begins_with-requires -}
     (λ c κs. search laws)
-    {- sub-wild-rule -}
+    {- slice_bounds-wild_rule-count -}
     (λ c. search laws)
-    {- part-wild-rule-start -}
+    {- slice_bounds-wild_rule-start -}
     (λ c. search laws)
-    {- part-wild-rule-end -}
+    {- slice_bounds-wild_rule-end -}
     (λ c. search laws)
-    {- wild-rule-requires -}
+    {- wild_rule-requires -}
     (λ c κs. search laws)
-    {- returns-3 -}
+    {- returns-then-begins_with -}
     (λ c. search laws)
-    {- slice-aggregate-begins-with-2 -}
-    (λ c. search laws)
-    {- begins-with-requires-2 -}
+    {- begins_with-requires-2 -}
     (λ c κs. search laws)
-    {- sub-exception-rule -}
+    {- slice_bounds-exception_rule-count -}
     (λ c. search laws)
-    {- part-exception-rule-start -}
+    {- slice_bounds-exception_rule-start -}
     (λ c. search laws)
-    {- part-exception-rule-end -}
+    {- slice_bounds-exception_rule-end -}
     (λ c. search laws)
-    {- exception-rule-requires -}
+    {- exception_rule-requires -}
     (λ c κs. search laws)
-    {- returns-4 -}
+    {- returns-then-begins_with-2 -}
     (λ c. search laws)
-    {- returns-5 -}
+    {- returns -}
     (λ c. search laws))

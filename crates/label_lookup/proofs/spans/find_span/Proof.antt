@@ -6,45 +6,45 @@ use Rattle.label_lookup.proofs.SpanLaws.{span_laws, turn_laws}
 use Rattle.label_lookup.proofs.spans.find_span.Statement.{statement}
 use Rattle.label_lookup.proofs.spans.find_span.Tie as tie
 
-abbrev invariant-loop : tie.invariant-loop
-invariant-loop label table kinds count from to₀ at₀ to at = Spanning label table (count - 1) from to at
+abbrev invariant-loop-at : tie.invariant-loop-at
+invariant-loop-at label table kinds count from to₀ at₀ to at = Spanning label table (count - 1) from to at
 
-abbrev decreases-loop : tie.decreases-loop
-decreases-loop label table kinds count from to₀ at₀ to at = length table - at
+abbrev decreases-loop-at : tie.decreases-loop-at
+decreases-loop-at label table kinds count from to₀ at₀ to at = length table - at
 
-pub find-span-spec : {M : Type 1} → statement M
-find-span-spec =
+pub find_span_spec : {M : Type 1} → statement M
+find_span_spec =
     tie.close
     (tie.spec
-    invariant-loop
-    decreases-loop
-    {- classes-requires -}
+    invariant-loop-at
+    decreases-loop-at
+    {- classes-classes-requires -}
     (λ c κs. search span_laws)
-    {- kinds-for-requires -}
+    {- kinds_for-kinds-requires -}
     (λ c κs. search span_laws)
-    {- label-count-requires -}
+    {- label_count-count-requires -}
     (λ c κs. search span_laws)
-    {- next-deeper-requires -}
+    {- next_deeper-from-requires -}
     (λ c κs. search span_laws)
-    {- returns -}
+    {- returns-then-table-from -}
     (λ c. search span_laws)
-    {- line-end-requires -}
+    {- line_end-to-requires -}
     (λ c κs. search span_laws)
-    {- add-next-deeper -}
+    {- overflow_add-to -}
     (λ c. search span_laws)
-    {- next-deeper-requires-2 -}
+    {- next_deeper-at-requires -}
     (λ c κs. search span_laws)
-    {- loop-holds -}
+    {- loop-at-init -}
     (λ c. search span_laws)
-    {- line-end-requires-2 -}
+    {- line_end-end-requires -}
     (λ c κs. search span_laws)
-    {- add-next-deeper-2 -}
+    {- overflow_add-end -}
     (λ c. search span_laws)
-    {- next-deeper-requires-3 -}
+    {- next_deeper-at-requires-in-loop-at -}
     (λ c κs. search span_laws)
-    {- loop-less -}
+    {- loop-at-smaller -}
     (λ c. search span_laws)
-    {- loop-again -}
+    {- loop-at-preserved -}
     (λ c. search turn_laws)
-    {- returns-2 -}
+    {- returns -}
     (λ c. search turn_laws))

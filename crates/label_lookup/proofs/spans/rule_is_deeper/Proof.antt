@@ -3,53 +3,45 @@ use Rattle.label_lookup.proofs.SpanLaws.{rule_laws}
 use Rattle.label_lookup.proofs.spans.rule_is_deeper.Statement.{statement}
 use Rattle.label_lookup.proofs.spans.rule_is_deeper.Tie as tie
 
-pub rule-is-deeper-spec : {M : Type 1} → statement M
-rule-is-deeper-spec =
+pub rule_is_deeper_spec : {M : Type 1} → statement M
+rule_is_deeper_spec =
     tie.close
     (tie.spec
-    {- returns -}
+    {- returns-then-w-eq0 -}
     (λ c. search rule_laws)
-    {- slice-aggregate-begins-with -}
-    (λ c. search rule_laws)
-    {- begins-with-requires -}
+    {- begins_with-requires -}
     (λ c κs. search rule_laws)
-    {- returns-2 -}
-    (λ c. search rule_laws)
-    {- slice-aggregate-equal -}
+    {- returns-then-begins_with -}
     (λ c. search rule_laws)
     {- equal-requires -}
     (λ c κs. search rule_laws)
-    {- returns-3 -}
+    {- returns-then-equal -}
     (λ c. search rule_laws)
-    {- slice-aggregate-begins-with-2 -}
-    (λ c. search rule_laws)
-    {- begins-with-requires-2 -}
+    {- begins_with-requires-2 -}
     (λ c κs. search rule_laws)
-    {- sub-wild-goes-deeper -}
+    {- slice_bounds-wild_goes_deeper-count -}
     (λ c. search rule_laws)
-    {- part-wild-goes-deeper-start -}
+    {- slice_bounds-wild_goes_deeper-start -}
     (λ c. search rule_laws)
-    {- part-wild-goes-deeper-end -}
+    {- slice_bounds-wild_goes_deeper-end -}
     (λ c. search rule_laws)
-    {- wild-goes-deeper-requires -}
+    {- wild_goes_deeper-requires -}
     (λ c κs. search rule_laws)
-    {- returns-4 -}
+    {- returns-then-begins_with-2 -}
     (λ c. search rule_laws)
-    {- slice-aggregate-begins-with-3 -}
-    (λ c. search rule_laws)
-    {- begins-with-requires-3 -}
+    {- begins_with-requires-3 -}
     (λ c κs. search rule_laws)
-    {- sub-name-deeper -}
+    {- slice_bounds-name_deeper-count -}
     (λ c. search rule_laws)
-    {- part-name-deeper-start -}
+    {- slice_bounds-name_deeper-start -}
     (λ c. search rule_laws)
-    {- part-name-deeper-end -}
+    {- slice_bounds-name_deeper-end -}
     (λ c. search rule_laws)
-    {- name-deeper-requires -}
+    {- name_deeper-requires -}
     (λ c κs. search rule_laws)
-    {- returns-5 -}
+    {- returns-then-begins_with-3 -}
     (λ c. search rule_laws)
-    {- name-deeper-requires-2 -}
+    {- name_deeper-requires-2 -}
     (λ c κs. search rule_laws)
-    {- returns-6 -}
+    {- returns -}
     (λ c. search rule_laws))
