@@ -179,11 +179,11 @@ module _ (table home₀ label : Bytes) (d : Deeper) (H : Held table home₀ labe
 
   -- another host that ends in the label, for which the span finds this
   module _ (h : Bytes) (t : ends_at_label label h ≡ true) (x y : ℕ) (f : best_of (labels h) (read_lines span) ≡ Sizes x y) where
-    own : Within table home₀ label H.Label-is home₀
-    own = home table home₀ label H.Label-is
+    own : Within table home₀ label H.label_is home₀
+    own = home table home₀ label H.label_is
 
-    here : Within table home₀ label H.Label-is h
-    here = within table home₀ label H.Label-is h t
+    here : Within table home₀ label H.label_is h
+    here = within table home₀ label H.label_is h t
 
     outside : (o : Option (List Rule)) → deeper_in (labels label) o ≡ false → best_of (labels h) o ≡ best_of (labels home₀) o
     outside = same_best (labels label) (labels home₀) (labels h) own.fits own.alike here.fits here.alike
@@ -203,7 +203,7 @@ module _ (table home₀ label : Bytes) (d : Deeper) (H : Held table home₀ labe
             let e : d.exception ≡ max ea (max eg ec) = cc in
             let m : d.most ≡ max ma (max mg mc) = cc in
             let F = fewer_found (labels label) (labels home₀) (labels h) own.fits own.alike here.fits here.alike (read_lines span) eg mg x y q f in
-            rw (← same_size ea eg ec x ma mg mc y d.exception d.most e m (length (labels label)) (label_size table home₀ label H.Label-is home_found) F.exceptions F.rules)
+            rw (← same_size ea eg ec x ma mg mc y d.exception d.most e m (length (labels label)) (label_size table home₀ label H.label_is home_found) F.exceptions F.rules)
             (found table h (max ea (max x ec)) (max ma (max y mc)) (sym (whole (Sizes ea ma) (Sizes ec mc) p r)))
             )
 
@@ -217,7 +217,7 @@ module _ (table label : Bytes) (d : Deeper) (h : Bytes) {b : Bool} (e : b ≡ en
 pub tells_by_size : {table label h s : Bytes} {d : Deeper} {f : Finding} {b : Bool} {x y n k : ℕ} → n ≡ size_of x y → k ≡ size_of d.exception d.most → x ≡ max d.exception f.exception
     → y ≡ max d.most f.most → FindsTable h s f → s ≡ take (d.to - d.from) (drop d.from table) → b ≡ true → b ≡ ends_at_label label h → Tells table label d h (eqb n k)
 tells_by_size {table} {label} {h} {s} {d} {f} i w u v F p c e =
-    record { is = λ home₀ H a. rw (w, i, u, v) (sym (by_size table home₀ label H.Label-is h a (size home₀ H) (home_found table home₀ label d H) (sym e ∙ c))) }
+    record { is = λ home₀ H a. rw (w, i, u, v) (sym (by_size table home₀ label H.label_is h a (size home₀ H) (home_found table home₀ label d H) (sym e ∙ c))) }
   where
     size : (home₀ : Bytes) → Held table home₀ label d → Found table h (size_of (max d.exception f.exception) (max d.most f.most))
     size home₀ H =

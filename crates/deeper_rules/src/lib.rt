@@ -1,5 +1,6 @@
 // Rules that go deeper than a private label: what the span of their lines finds for a host that ends in it.
 #![tactic(auto)]
+
 ghost use Rattle.std.specs.Prelude.{◌≡◌, ◌++◌};
 ghost use Rattle.ascii.specs.Ascii.{text};
 ghost use Rattle.deeper_rules.specs.code.Findings.{found, FindsHost, FindsRule, FindsLine, FindsTable, Tells};

@@ -3,59 +3,51 @@ use Rattle.deeper_rules.proofs.FindingLaws.{any_laws, star_alone}
 use Rattle.deeper_rules.proofs.any_finding.Statement.{statement}
 use Rattle.deeper_rules.proofs.any_finding.Tie as tie
 
-pub any-finding-spec : {M : Type 1} → statement M
-any-finding-spec =
+pub any_finding_spec : {M : Type 1} → statement M
+any_finding_spec =
     tie.close
     (tie.spec
     {- sizes-requires -}
     (λ c κs. search any_laws)
-    {- returns -}
+    {- returns-then-w-eq0 -}
     (λ c. search any_laws)
-    {- slice-aggregate-begins-with -}
-    (λ c. search any_laws)
-    {- begins-with-requires -}
+    {- begins_with-requires -}
     (λ c κs. search any_laws)
-    {- sizes-requires-2 -}
+    {- sizes-requires-then-begins_with -}
     (λ c κs. search any_laws)
-    {- returns-2 -}
-    (λ c. search any_laws)
-    {- slice-aggregate-equal -}
+    {- returns-then-begins_with -}
     (λ c. search any_laws)
     {- equal-requires -}
     (λ c κs. search any_laws)
-    {- sizes-requires-3 -}
+    {- sizes-requires-then-equal -}
     (λ c κs. search any_laws)
-    {- returns-3 -}
+    {- returns-then-equal -}
     (λ c. search star_alone)
-    {- slice-aggregate-begins-with-2 -}
-    (λ c. search any_laws)
-    {- begins-with-requires-2 -}
+    {- begins_with-requires-2 -}
     (λ c κs. search any_laws)
-    {- sub-wild-finding -}
+    {- slice_bounds-wild_finding-count -}
     (λ c. search any_laws)
-    {- part-wild-finding-start -}
+    {- slice_bounds-wild_finding-start -}
     (λ c. search any_laws)
-    {- part-wild-finding-end -}
+    {- slice_bounds-wild_finding-end -}
     (λ c. search any_laws)
-    {- wild-finding-requires -}
+    {- wild_finding-requires -}
     (λ c κs. search any_laws)
-    {- returns-4 -}
+    {- returns-then-begins_with-2 -}
     (λ c. search any_laws)
-    {- slice-aggregate-begins-with-3 -}
-    (λ c. search any_laws)
-    {- begins-with-requires-3 -}
+    {- begins_with-requires-3 -}
     (λ c κs. search any_laws)
-    {- sub-exception-finding -}
+    {- slice_bounds-exception_finding-count -}
     (λ c. search any_laws)
-    {- part-exception-finding-start -}
+    {- slice_bounds-exception_finding-start -}
     (λ c. search any_laws)
-    {- part-exception-finding-end -}
+    {- slice_bounds-exception_finding-end -}
     (λ c. search any_laws)
-    {- exception-finding-requires -}
+    {- exception_finding-requires -}
     (λ c κs. search any_laws)
-    {- returns-5 -}
+    {- returns-then-begins_with-3 -}
     (λ c. search any_laws)
-    {- host-finding-requires -}
+    {- host_finding-requires -}
     (λ c κs. search any_laws)
-    {- returns-6 -}
+    {- returns -}
     (λ c. search any_laws))

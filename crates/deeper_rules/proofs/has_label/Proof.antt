@@ -3,25 +3,25 @@ use Rattle.deeper_rules.proofs.JoinedSizes.{joined_laws, sized}
 use Rattle.deeper_rules.proofs.has_label.Statement.{statement}
 use Rattle.deeper_rules.proofs.has_label.Tie as tie
 
-pub has-label-spec : {M : Type 1} → statement M
-has-label-spec =
+pub has_label_spec : {M : Type 1} → statement M
+has_label_spec =
     tie.close
     (tie.spec
-    {- ends-at-label-requires -}
+    {- ends_at_label-requires -}
     (λ c κs. search joined_laws)
     {- part-requires -}
     (λ c κs. search joined_laws)
-    {- table-finding-requires -}
+    {- table_finding-span-requires -}
     (λ c κs. search joined_laws)
-    {- larger-requires -}
+    {- larger-exception-requires -}
     (λ c κs. search joined_laws)
-    {- larger-requires-2 -}
+    {- larger-most-requires -}
     (λ c κs. search joined_laws)
-    {- suffix-size-requires -}
+    {- suffix_size-own-requires -}
     (λ c κs. search joined_laws)
-    {- suffix-size-requires-2 -}
+    {- suffix_size-requires -}
     (λ c κs. search joined_laws)
-    {- returns -}
+    {- returns-then-ends_at_label -}
     (λ c. search sized)
-    {- returns-2 -}
+    {- returns -}
     (λ c. search joined_laws))

@@ -3,19 +3,19 @@ use Rattle.deeper_rules.proofs.FindingLaws.{host_laws}
 use Rattle.deeper_rules.proofs.host_finding.Statement.{statement}
 use Rattle.deeper_rules.proofs.host_finding.Tie as tie
 
-pub host-finding-spec : {M : Type 1} → statement M
-host-finding-spec =
+pub host_finding_spec : {M : Type 1} → statement M
+host_finding_spec =
     tie.close
     (tie.spec
-    {- ends-at-label-requires -}
+    {- ends_at_label-requires -}
     (λ c κs. search host_laws)
-    {- label-count-requires -}
+    {- label_count-requires -}
     (λ c κs. search host_laws)
     {- sizes-requires -}
     (λ c κs. search host_laws)
-    {- returns -}
+    {- returns-then-ends_at_label -}
     (λ c. search host_laws)
     {- sizes-requires-2 -}
     (λ c κs. search host_laws)
-    {- returns-2 -}
+    {- returns -}
     (λ c. search host_laws))

@@ -6,43 +6,43 @@ use Rattle.deeper_rules.proofs.FindingLaws.{lines_laws, looked, Looks_on}
 use Rattle.deeper_rules.proofs.lines_finding.Statement.{statement}
 use Rattle.deeper_rules.proofs.lines_finding.Tie as tie
 
-abbrev invariant-loop : tie.invariant-loop
-invariant-loop host s exception₀ most₀ at₀ exception most at = Looking host s exception most at
+abbrev invariant-loop-exception : tie.invariant-loop-exception
+invariant-loop-exception host s exception₀ most₀ at₀ exception most at = Looking host s exception most at
 
-abbrev decreases-loop : tie.decreases-loop
-decreases-loop host s exception₀ most₀ at₀ exception most at = length s - at
+abbrev decreases-loop-exception : tie.decreases-loop-exception
+decreases-loop-exception host s exception₀ most₀ at₀ exception most at = length s - at
 
-pub lines-finding-spec : {M : Type 1} → statement M
-lines-finding-spec =
+pub lines_finding_spec : {M : Type 1} → statement M
+lines_finding_spec =
     tie.close
     (tie.spec
-    invariant-loop
-    decreases-loop
-    {- loop-holds -}
+    invariant-loop-exception
+    decreases-loop-exception
+    {- loop-exception-init -}
     (λ c. search lines_laws)
-    {- content-end-requires -}
+    {- content_end-to-requires -}
     (λ c κs. search lines_laws)
-    {- sub-line-finding -}
+    {- slice_bounds-line_finding-count -}
     (λ c. search lines_laws)
-    {- part-line-finding-start -}
+    {- slice_bounds-line_finding-start -}
     (λ c. search lines_laws)
-    {- part-line-finding-end -}
+    {- slice_bounds-line_finding-end -}
     (λ c. search lines_laws)
-    {- line-finding-requires -}
+    {- line_finding-line-requires -}
     (λ c κs. search lines_laws)
-    {- larger-requires -}
+    {- larger-exception-requires -}
     (λ c κs. search lines_laws)
-    {- larger-requires-2 -}
+    {- larger-most-requires -}
     (λ c κs. search lines_laws)
-    {- line-end-requires -}
+    {- line_end-end-requires -}
     (λ c κs. search lines_laws)
     {- sizes-requires -}
     (λ c κs. search lines_laws)
-    {- returns -}
+    {- returns-then-s-end -}
     (λ c. search looked)
-    {- add-at -}
+    {- overflow_add-at -}
     (λ c. search lines_laws)
-    {- loop-less -}
+    {- loop-exception-smaller -}
     (λ c. search lines_laws)
-    {- loop-again -}
+    {- loop-exception-preserved -}
     (λ c. search Looks_on))

@@ -3,21 +3,21 @@ use Rattle.deeper_rules.proofs.FindingLaws.{pass_laws}
 use Rattle.deeper_rules.proofs.pass_finding.Statement.{statement}
 use Rattle.deeper_rules.proofs.pass_finding.Tie as tie
 
-pub pass-finding-spec : {M : Type 1} → statement M
-pass-finding-spec =
+pub pass_finding_spec : {M : Type 1} → statement M
+pass_finding_spec =
     tie.close
     (tie.spec
-    {- deep-rules-requires -}
+    {- deep_rules-found-requires -}
     (λ c κs. search pass_laws)
-    {- enum-known-found -}
+    {- enum_known-found -}
     (λ c. search pass_laws)
-    {- enum-told -}
+    {- enum_told-1 -}
     (λ c. search pass_laws)
     {- sizes-requires -}
     (λ c κs. search pass_laws)
-    {- returns -}
+    {- returns-in_default -}
     (λ c. search pass_laws)
     {- sizes-requires-2 -}
     (λ c κs. search pass_laws)
-    {- returns-2 -}
+    {- returns -}
     (λ c. search pass_laws))
