@@ -1,5 +1,6 @@
 // Callers matched with the AppID (rule 3) and with an entry (rule 4).
 #![tactic(auto)]
+
 ghost use Rattle.std.specs.Prelude.{◌≡◌, drop};
 ghost use Rattle.ascii.specs.Ascii.{same_no_case};
 ghost use Rattle.origin.specs.Origin.{web_origin, https_url};

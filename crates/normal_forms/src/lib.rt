@@ -1,5 +1,6 @@
 // Normal forms, and bytes written into a lent slice.
 #![tactic(auto)]
+
 ghost use Rattle.std.specs.Prelude.{◌≡◌, ◌+◌, length};
 ghost use Rattle.ascii.specs.Ascii.{lower};
 ghost use Rattle.origin.specs.Origin.{shown_port, normal_form};

@@ -1,7 +1,7 @@
 -- What is known of a text that is read as a web origin or an HTTPS URL, and of native identities. Assumes nothing.
 use mathlib.Core.Path.{◌≡◌, refl, sym, ap, ap₂}
 use mathlib.Core.List.{[], ◌∷◌, ◌++◌}
-use mathlib.Core.Bool.{Bool, true, false, ◌&&◌, ◌||◌, not, or_true, and-eq-true_iff}
+use mathlib.Core.Bool.{Bool, true, false, ◌&&◌, ◌||◌, not, or-true, and-eq-true_iff}
 use mathlib.Core.Option.{Option, none, some}
 use Prim.Native.Nat.{ℕ, ◌+◌, ◌≤◌}
 use native.Mathlib.Omega.{arith}
@@ -56,7 +56,7 @@ port_read host s = go (begins_with (text ":") s) refl (is_port (take_while is_di
         if u then some (record { host = host; port = take_while is_digit (drop 1 s); tail = drop_while is_digit (drop 1 s) }) else none)
     go false e u f = (refl, refl, unfold shown_port in omega arith, omega arith)
     go true e true f =
-        (refl, rw (f, or_true), omega (arith, shown_length (take_while is_digit (drop 1 s)), while_split is_digit (drop 1 s), length-drop 1 s, begins_length (text ":") s e), omega (arith, while_split is_digit (drop 1 s), length-drop 1 s))
+        (refl, rw (f, or-true), omega (arith, shown_length (take_while is_digit (drop 1 s)), while_split is_digit (drop 1 s), length-drop 1 s, begins_length (text ":") s e), omega (arith, while_split is_digit (drop 1 s), length-drop 1 s))
     go true e false f = tt
 
 -- a is read of s

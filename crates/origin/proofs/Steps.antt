@@ -1,6 +1,6 @@
 -- Single steps: bytes, prefixes, tails and native identities. Assumes nothing.
 use mathlib.Core.Path.{◌≡◌, refl, ap, sym, ◌∙◌}
-use mathlib.Core.Bool.{Bool, true, false, ◌&&◌, ◌||◌, not, and-false, or_true, and-eq-true_iff}
+use mathlib.Core.Bool.{Bool, true, false, ◌&&◌, ◌||◌, not, and-false, or-true, and-eq-true_iff}
 use mathlib.Core.List.{[], ◌∷◌}
 use Prim.Native.Nat.{ℕ, suc, ◌+◌, ◌≤◌, ◌<◌}
 use Prim.Native.Char.{code}
@@ -61,7 +61,7 @@ module _ (table : Bytes) (b : ℕ) (C : Classifies table) (h : b < 256) where
   module _ (l : 2 ≤ get_or table b 0) where
     pub key_plus : b ≡ 43 → true ≡ is_key_hash_byte b
     unfolding is_key_hash_byte
-    key_plus e = rw (eq-eqb _ _ e, or_true)
+    key_plus e = rw (eq-eqb _ _ e, or-true)
 
     pub key_slash : (b ≡ 43 → ⊥) → eqb b 47 ≡ is_key_hash_byte b
     unfolding is_key_hash_byte

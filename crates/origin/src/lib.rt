@@ -1,5 +1,6 @@
 // Identifiers: web origins, native identities, facets, HTTPS URLs.
 #![tactic(auto)]
+
 ghost use Rattle.std.proofs.Math.Option.{some};
 ghost use Rattle.std.specs.Prelude.{◌≡◌, ◌+◌, ◌≤◌, length, drop};
 ghost use Rattle.ascii.specs.Ascii.{is_digit, take_while};

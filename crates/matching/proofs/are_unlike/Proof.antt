@@ -6,49 +6,49 @@ use Rattle.matching.proofs.Laws.{unlike_laws}
 use Rattle.matching.proofs.are_unlike.Statement.{statement}
 use Rattle.matching.proofs.are_unlike.Tie as tie
 
-abbrev invariant-loop : tie.invariant-loop
-invariant-loop x y i₀ i = Walks x y i
+abbrev invariant-loop-i : tie.invariant-loop-i
+invariant-loop-i x y i₀ i = Walks x y i
 
-abbrev decreases-loop : tie.decreases-loop
-decreases-loop x y i₀ i = length x - i
+abbrev decreases-loop-i : tie.decreases-loop-i
+decreases-loop-i x y i₀ i = length x - i
 
-pub are-unlike-spec : {M : Type 1} → statement M
-are-unlike-spec =
+pub are_unlike_spec : {M : Type 1} → statement M
+are_unlike_spec =
     tie.close
     (tie.spec
-    invariant-loop
-    decreases-loop
-    {- loop-holds -}
+    invariant-loop-i
+    decreases-loop-i
+    {- loop-i-init -}
     (λ c. search unlike_laws)
-    {- are-apart-requires -}
+    {- are_apart-requires -}
     (λ c κs. search unlike_laws)
-    {- returns -}
+    {- returns-then-y-i -}
     (λ c. search unlike_laws)
-    {- shared-slice-read-is-stop -}
+    {- bounds-x-i -}
     (λ c. search unlike_laws)
-    {- is-stop-requires -}
+    {- is_stop-requires -}
     (λ c κs. search unlike_laws)
-    {- are-apart-requires-2 -}
+    {- are_apart-requires-then-is_stop -}
     (λ c κs. search unlike_laws)
-    {- returns-2 -}
+    {- returns-then-is_stop -}
     (λ c. search unlike_laws)
-    {- shared-slice-read-alike -}
+    {- bounds-x-i-in-loop-i -}
     (λ c. search unlike_laws)
-    {- shared-slice-read-alike-2 -}
+    {- bounds-y-i -}
     (λ c. search unlike_laws)
     {- alike-requires -}
     (λ c κs. search unlike_laws)
-    {- add-i -}
+    {- overflow_add-i -}
     (λ c. search unlike_laws)
-    {- loop-less -}
+    {- loop-i-smaller -}
     (λ c. search unlike_laws)
-    {- loop-again -}
+    {- loop-i-preserved -}
     (λ c. search unlike_laws)
-    {- are-apart-requires-3 -}
+    {- are_apart-requires-else-alike -}
     (λ c κs. search unlike_laws)
-    {- returns-3 -}
+    {- returns-else-alike -}
     (λ c. search unlike_laws)
-    {- are-apart-requires-4 -}
+    {- are_apart-requires-2 -}
     (λ c κs. search unlike_laws)
-    {- returns-4 -}
+    {- returns -}
     (λ c. search unlike_laws))

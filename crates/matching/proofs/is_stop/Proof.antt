@@ -3,5 +3,5 @@ use Rattle.matching.proofs.Laws.{unlike_laws}
 use Rattle.matching.proofs.is_stop.Statement.{statement}
 use Rattle.matching.proofs.is_stop.Tie as tie
 
-pub is-stop-spec : {M : Type 1} → statement M
-is-stop-spec = tie.close (tie.spec {- returns -} (λ c. search unlike_laws) {- returns-2 -} (λ c. search unlike_laws))
+pub is_stop_spec : {M : Type 1} → statement M
+is_stop_spec = tie.close (tie.spec {- returns-then-b-eq58 -} (λ c. search unlike_laws) {- returns -} (λ c. search unlike_laws))

@@ -3,33 +3,33 @@ use Rattle.matching.proofs.Laws.{laws, match_laws}
 use Rattle.matching.proofs.matches.Statement.{statement}
 use Rattle.matching.proofs.matches.Tie as tie
 
-pub matches-spec : {M : Type 1} → statement M
-matches-spec =
+pub matches_spec : {M : Type 1} → statement M
+matches_spec =
     tie.close
     (tie.spec
-    {- are-unlike-requires -}
+    {- are_unlike-requires -}
     (λ c κs. search laws)
-    {- returns -}
+    {- returns-then-are_unlike -}
     (λ c. search match_laws)
-    {- web-origin-requires -}
+    {- web_origin-requires -}
     (λ c κs. search laws)
-    {- enum-known-p -}
+    {- enum_known-p -}
     (λ c. search laws)
-    {- enum-told -}
+    {- enum_told-1 -}
     (λ c. search laws)
     {- equal-requires -}
     (λ c κs. search laws)
-    {- returns-2 -}
+    {- returns-in_default -}
     (λ c. search match_laws)
-    {- web-origin-requires-2 -}
+    {- web_origin-requires-2 -}
     (λ c κs. search laws)
-    {- enum-known-q -}
+    {- enum_known-q -}
     (λ c. search laws)
-    {- enum-told-2 -}
+    {- enum_told-in_default-web_origin -}
     (λ c. search laws)
-    {- returns-3 -}
+    {- returns-in_default-web_origin -}
     (λ c. search match_laws)
-    {- same-origin-requires -}
+    {- same_origin-requires -}
     (λ c κs. search laws)
-    {- returns-4 -}
+    {- returns -}
     (λ c. search match_laws))

@@ -3,23 +3,21 @@ use Rattle.normal_forms.proofs.Writings.{write_laws}
 use Rattle.normal_forms.proofs.is_hidden.Statement.{statement}
 use Rattle.normal_forms.proofs.is_hidden.Tie as tie
 
-pub is-hidden-spec : {M : Type 1} → statement M
-is-hidden-spec =
+pub is_hidden_spec : {M : Type 1} → statement M
+is_hidden_spec =
     tie.close
     (tie.spec
-    {- add-from -}
+    {- overflow_add-from -}
     (λ c. search write_laws)
-    {- returns -}
+    {- returns-then-tail-from -}
     (λ c. search write_laws)
-    {- sub-equal -}
+    {- slice_bounds-equal-count -}
     (λ c. search write_laws)
-    {- part-equal-start -}
+    {- slice_bounds-equal-start -}
     (λ c. search write_laws)
-    {- part-equal-end -}
-    (λ c. search write_laws)
-    {- slice-aggregate-equal -}
+    {- slice_bounds-equal-end -}
     (λ c. search write_laws)
     {- equal-requires -}
     (λ c κs. search write_laws)
-    {- returns-2 -}
+    {- returns -}
     (λ c. search write_laws))

@@ -3,7 +3,7 @@ use Rattle.normal_forms.proofs.Writings.{write_laws}
 use Rattle.normal_forms.proofs.normal_length.Statement.{statement}
 use Rattle.normal_forms.proofs.normal_length.Tie as tie
 
-pub normal-length-spec : {M : Type 1} → statement M
-normal-length-spec =
+pub normal_length_spec : {M : Type 1} → statement M
+normal_length_spec =
     tie.close
-    (tie.spec {- web-origin-requires -} (λ c κs. search write_laws) {- enum-known-p -} (λ c. search write_laws) {- enum-told -} (λ c. search write_laws) {- returns -} (λ c. search write_laws) {- web-length-requires -} (λ c κs. search write_laws) {- returns-2 -} (λ c. search write_laws))
+    (tie.spec {- web_origin-requires -} (λ c κs. search write_laws) {- enum_known-p -} (λ c. search write_laws) {- enum_told-1 -} (λ c. search write_laws) {- returns-in_default -} (λ c. search write_laws) {- web_length-requires -} (λ c κs. search write_laws) {- returns -} (λ c. search write_laws))

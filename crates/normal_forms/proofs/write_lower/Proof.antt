@@ -7,43 +7,43 @@ use Rattle.normal_forms.proofs.Writings.{write_laws}
 use Rattle.normal_forms.proofs.write_lower.Statement.{statement}
 use Rattle.normal_forms.proofs.write_lower.Tie as tie
 
-abbrev invariant-loop : tie.invariant-loop
-invariant-loop x out₀ at n i₀ out i = Pasted (lower x) (length x) at out₀ out i
+abbrev invariant-loop-i : tie.invariant-loop-i
+invariant-loop-i x out₀ at n i₀ out i = Pasted (lower x) (length x) at out₀ out i
 
-abbrev decreases-loop : tie.decreases-loop
-decreases-loop x out₀ at n i₀ out i = length x - i
+abbrev decreases-loop-i : tie.decreases-loop-i
+decreases-loop-i x out₀ at n i₀ out i = length x - i
 
-pub write-lower-spec : {M : Type 1} → statement M
-write-lower-spec =
+pub write_lower_spec : {M : Type 1} → statement M
+write_lower_spec =
     tie.close
     (tie.spec
-    invariant-loop
-    decreases-loop
-    {- returns -}
+    invariant-loop-i
+    decreases-loop-i
+    {- returns-then-out-n -}
     (λ c. search write_laws)
-    {- sub-if2 -}
+    {- overflow_sub-out -}
     (λ c. search write_laws)
-    {- returns-2 -}
+    {- returns-then-out-n-2 -}
     (λ c. search write_laws)
-    {- loop-holds -}
+    {- loop-i-init -}
     (λ c. search write_laws)
-    {- shared-slice-read-lower-byte -}
+    {- bounds-x-i -}
     (λ c. search write_laws)
-    {- lower-byte-requires -}
+    {- lower_byte-requires -}
     (λ c κs. search write_laws)
-    {- add-out -}
+    {- overflow_add-out -}
     (λ c. search write_laws)
-    {- slice-write-out -}
+    {- bounds-out-at -}
     (λ c. search write_laws)
-    {- add-i -}
+    {- overflow_add-i -}
     (λ c. search write_laws)
-    {- loop-less -}
+    {- loop-i-smaller -}
     (λ c. search write_laws)
-    {- loop-again -}
+    {- loop-i-preserved -}
     (λ c. search write_laws)
-    {- add-result -}
+    {- overflow_add-result -}
     (λ c. search write_laws)
-    {- same-length -}
+    {- shape_of-out -}
     (λ c. search write_laws)
-    {- returns-3 -}
+    {- returns -}
     (λ c. search write_laws))

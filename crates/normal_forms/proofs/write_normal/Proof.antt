@@ -3,25 +3,25 @@ use Rattle.normal_forms.proofs.Writings.{write_laws}
 use Rattle.normal_forms.proofs.write_normal.Statement.{statement}
 use Rattle.normal_forms.proofs.write_normal.Tie as tie
 
-pub write-normal-spec : {M : Type 1} → statement M
-write-normal-spec =
+pub write_normal_spec : {M : Type 1} → statement M
+write_normal_spec =
     tie.close
     (tie.spec
-    {- web-origin-requires -}
+    {- web_origin-requires -}
     (λ c κs. search write_laws)
-    {- enum-known-p -}
+    {- enum_known-p -}
     (λ c. search write_laws)
-    {- enum-told -}
+    {- enum_told-1 -}
     (λ c. search write_laws)
-    {- write-bytes-requires -}
+    {- write_bytes-requires -}
     (λ c κs. search write_laws)
-    {- same-length -}
+    {- shape_of-out-in_default -}
+    (λ c. search write_laws)
+    {- returns-in_default -}
+    (λ c. search write_laws)
+    {- write_web-requires -}
+    (λ c κs. search write_laws)
+    {- shape_of-out -}
     (λ c. search write_laws)
     {- returns -}
-    (λ c. search write_laws)
-    {- write-web-requires -}
-    (λ c κs. search write_laws)
-    {- same-length-2 -}
-    (λ c. search write_laws)
-    {- returns-2 -}
     (λ c. search write_laws))

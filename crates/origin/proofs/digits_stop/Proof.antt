@@ -7,31 +7,31 @@ use Rattle.origin.proofs.Laws.{laws}
 use Rattle.origin.proofs.digits_stop.Statement.{statement}
 use Rattle.origin.proofs.digits_stop.Tie as tie
 
-abbrev invariant-loop : tie.invariant-loop
-invariant-loop s from i₀ i = i + length (take_while is_digit (drop i s)) ≡ from + length (take_while is_digit (drop from s))
+abbrev invariant-loop-i : tie.invariant-loop-i
+invariant-loop-i s from i₀ i = i + length (take_while is_digit (drop i s)) ≡ from + length (take_while is_digit (drop from s))
 
-abbrev decreases-loop : tie.decreases-loop
-decreases-loop s from i₀ i = length s - i
+abbrev decreases-loop-i : tie.decreases-loop-i
+decreases-loop-i s from i₀ i = length s - i
 
-pub digits-stop-spec : {M : Type 1} → statement M
-digits-stop-spec =
+pub digits_stop_spec : {M : Type 1} → statement M
+digits_stop_spec =
     tie.close
     (tie.spec
-    invariant-loop
-    decreases-loop
-    {- loop-holds -}
+    invariant-loop-i
+    decreases-loop-i
+    {- loop-i-init -}
     (λ c. search laws)
-    {- shared-slice-read-is-digit -}
+    {- bounds-s-i -}
     (λ c. search laws)
-    {- is-digit-requires -}
+    {- is_digit-requires -}
     (λ c κs. search laws)
-    {- add-i -}
+    {- overflow_add-i -}
     (λ c. search laws)
-    {- loop-less -}
+    {- loop-i-smaller -}
     (λ c. search laws)
-    {- loop-again -}
+    {- loop-i-preserved -}
+    (λ c. search laws)
+    {- returns-else-is_digit -}
     (λ c. search laws)
     {- returns -}
-    (λ c. search laws)
-    {- returns-2 -}
     (λ c. search laws))

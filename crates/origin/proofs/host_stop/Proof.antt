@@ -8,31 +8,31 @@ use Rattle.origin.proofs.Laws.{laws}
 use Rattle.origin.proofs.host_stop.Statement.{statement}
 use Rattle.origin.proofs.host_stop.Tie as tie
 
-abbrev invariant-loop : tie.invariant-loop
-invariant-loop classes s from i₀ i = i + length (take_while is_host_byte (drop i s)) ≡ from + length (take_while is_host_byte (drop from s))
+abbrev invariant-loop-i : tie.invariant-loop-i
+invariant-loop-i classes s from i₀ i = i + length (take_while is_host_byte (drop i s)) ≡ from + length (take_while is_host_byte (drop from s))
 
-abbrev decreases-loop : tie.decreases-loop
-decreases-loop classes s from i₀ i = length s - i
+abbrev decreases-loop-i : tie.decreases-loop-i
+decreases-loop-i classes s from i₀ i = length s - i
 
-pub host-stop-spec : {M : Type 1} → statement M
-host-stop-spec =
+pub host_stop_spec : {M : Type 1} → statement M
+host_stop_spec =
     tie.close
     (tie.spec
-    invariant-loop
-    decreases-loop
-    {- loop-holds -}
+    invariant-loop-i
+    decreases-loop-i
+    {- loop-i-init -}
     (λ c. search laws)
-    {- shared-slice-read-is-host-byte -}
+    {- bounds-s-i -}
     (λ c. search laws)
-    {- is-host-byte-requires -}
+    {- is_host_byte-requires -}
     (λ c κs. search laws)
-    {- add-i -}
+    {- overflow_add-i -}
     (λ c. search laws)
-    {- loop-less -}
+    {- loop-i-smaller -}
     (λ c. search laws)
-    {- loop-again -}
+    {- loop-i-preserved -}
+    (λ c. search laws)
+    {- returns-else-is_host_byte -}
     (λ c. search laws)
     {- returns -}
-    (λ c. search laws)
-    {- returns-2 -}
     (λ c. search laws))

@@ -3,29 +3,29 @@ use Rattle.origin.proofs.Laws.{laws}
 use Rattle.origin.proofs.https_url.Statement.{statement}
 use Rattle.origin.proofs.https_url.Tie as tie
 
-pub https-url-spec : {M : Type 1} → statement M
-https-url-spec =
+pub https_url_spec : {M : Type 1} → statement M
+https_url_spec =
     tie.close
     (tie.spec
-    {- returns -}
+    {- returns-then-s-gt2048 -}
     (λ c. search laws)
-    {- read-https-requires -}
+    {- read_https-requires -}
     (λ c κs. search laws)
-    {- enum-known-p -}
+    {- enum_known-p -}
     (λ c. search laws)
-    {- enum-told -}
+    {- enum_told-1 -}
     (λ c. search laws)
-    {- returns-2 -}
+    {- returns-in_default -}
     (λ c. search laws)
-    {- sub-is-tail -}
+    {- slice_bounds-is_tail-count -}
     (λ c. search laws)
-    {- part-is-tail-start -}
+    {- slice_bounds-is_tail-start -}
     (λ c. search laws)
-    {- part-is-tail-end -}
+    {- slice_bounds-is_tail-end -}
     (λ c. search laws)
-    {- is-tail-requires -}
+    {- is_tail-requires -}
     (λ c κs. search laws)
-    {- returns-3 -}
+    {- returns-then-is_tail -}
     (λ c. search laws)
-    {- returns-4 -}
+    {- returns-else-is_tail -}
     (λ c. search laws))

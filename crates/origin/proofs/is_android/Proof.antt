@@ -3,21 +3,19 @@ use Rattle.origin.proofs.Laws.{laws}
 use Rattle.origin.proofs.is_android.Statement.{statement}
 use Rattle.origin.proofs.is_android.Tie as tie
 
-pub is-android-spec : {M : Type 1} → statement M
-is-android-spec =
+pub is_android_spec : {M : Type 1} → statement M
+is_android_spec =
     tie.close
     (tie.spec
-    {- returns -}
+    {- returns-then-s-ne48 -}
     (λ c. search laws)
-    {- slice-aggregate-begins-with -}
+    {- begins_with-requires -}
+    (λ c κs. search laws)
+    {- classes-classes-requires -}
+    (λ c κs. search laws)
+    {- key_hash_stop-requires -}
+    (λ c κs. search laws)
+    {- returns-then-begins_with -}
     (λ c. search laws)
-    {- begins-with-requires -}
-    (λ c κs. search laws)
-    {- classes-requires -}
-    (λ c κs. search laws)
-    {- key-hash-stop-requires -}
-    (λ c κs. search laws)
-    {- returns-2 -}
-    (λ c. search laws)
-    {- returns-3 -}
+    {- returns-else-begins_with -}
     (λ c. search laws))

@@ -3,21 +3,21 @@ use Rattle.origin.proofs.Laws.{laws}
 use Rattle.origin.proofs.is_facet.Statement.{statement}
 use Rattle.origin.proofs.is_facet.Tie as tie
 
-pub is-facet-spec : {M : Type 1} → statement M
-is-facet-spec =
+pub is_facet_spec : {M : Type 1} → statement M
+is_facet_spec =
     tie.close
     (tie.spec
+    {- returns-then-s-gt512 -}
+    (λ c. search laws)
+    {- web_origin-requires -}
+    (λ c κs. search laws)
+    {- enum_told-1 -}
+    (λ c. search laws)
+    {- returns-in-Found -}
+    (λ c. search laws)
+    {- enum_told-in_default -}
+    (λ c. search laws)
+    {- is_native-requires -}
+    (λ c κs. search laws)
     {- returns -}
-    (λ c. search laws)
-    {- web-origin-requires -}
-    (λ c κs. search laws)
-    {- enum-told -}
-    (λ c. search laws)
-    {- returns-2 -}
-    (λ c. search laws)
-    {- enum-told-2 -}
-    (λ c. search laws)
-    {- is-native-requires -}
-    (λ c κs. search laws)
-    {- returns-3 -}
     (λ c. search laws))

@@ -3,5 +3,5 @@ use Rattle.origin.proofs.Laws.{laws}
 use Rattle.origin.proofs.is_host_byte.Statement.{statement}
 use Rattle.origin.proofs.is_host_byte.Tie as tie
 
-pub is-host-byte-spec : {M : Type 1} → statement M
-is-host-byte-spec = tie.close (tie.spec {- element-copy-out-result -} (λ c. search laws) {- returns -} (λ c. search laws))
+pub is_host_byte_spec : {M : Type 1} → statement M
+is_host_byte_spec = tie.close (tie.spec {- bounds-classes-b -} (λ c. search laws) {- returns -} (λ c. search laws))

@@ -3,23 +3,21 @@ use Rattle.origin.proofs.Laws.{laws}
 use Rattle.origin.proofs.is_ios.Statement.{statement}
 use Rattle.origin.proofs.is_ios.Tie as tie
 
-pub is-ios-spec : {M : Type 1} → statement M
-is-ios-spec =
+pub is_ios_spec : {M : Type 1} → statement M
+is_ios_spec =
     tie.close
     (tie.spec
-    {- returns -}
+    {- returns-then-s-lt15 -}
     (λ c. search laws)
-    {- returns-2 -}
+    {- returns-then-s-gt269 -}
     (λ c. search laws)
-    {- slice-aggregate-begins-with -}
-    (λ c. search laws)
-    {- begins-with-requires -}
+    {- begins_with-requires -}
     (λ c κs. search laws)
-    {- classes-requires -}
+    {- classes-classes-requires -}
     (λ c κs. search laws)
-    {- host-stop-requires -}
+    {- host_stop-requires -}
     (λ c κs. search laws)
-    {- returns-3 -}
+    {- returns-then-begins_with -}
     (λ c. search laws)
-    {- returns-4 -}
+    {- returns-else-begins_with -}
     (λ c. search laws))

@@ -8,31 +8,31 @@ use Rattle.origin.proofs.Laws.{laws}
 use Rattle.origin.proofs.key_hash_stop.Statement.{statement}
 use Rattle.origin.proofs.key_hash_stop.Tie as tie
 
-abbrev invariant-loop : tie.invariant-loop
-invariant-loop classes s from i₀ i = i + length (take_while is_key_hash_byte (drop i s)) ≡ from + length (take_while is_key_hash_byte (drop from s))
+abbrev invariant-loop-i : tie.invariant-loop-i
+invariant-loop-i classes s from i₀ i = i + length (take_while is_key_hash_byte (drop i s)) ≡ from + length (take_while is_key_hash_byte (drop from s))
 
-abbrev decreases-loop : tie.decreases-loop
-decreases-loop classes s from i₀ i = length s - i
+abbrev decreases-loop-i : tie.decreases-loop-i
+decreases-loop-i classes s from i₀ i = length s - i
 
-pub key-hash-stop-spec : {M : Type 1} → statement M
-key-hash-stop-spec =
+pub key_hash_stop_spec : {M : Type 1} → statement M
+key_hash_stop_spec =
     tie.close
     (tie.spec
-    invariant-loop
-    decreases-loop
-    {- loop-holds -}
+    invariant-loop-i
+    decreases-loop-i
+    {- loop-i-init -}
     (λ c. search laws)
-    {- shared-slice-read-is-key-hash-byte -}
+    {- bounds-s-i -}
     (λ c. search laws)
-    {- is-key-hash-byte-requires -}
+    {- is_key_hash_byte-requires -}
     (λ c κs. search laws)
-    {- add-i -}
+    {- overflow_add-i -}
     (λ c. search laws)
-    {- loop-less -}
+    {- loop-i-smaller -}
     (λ c. search laws)
-    {- loop-again -}
+    {- loop-i-preserved -}
+    (λ c. search laws)
+    {- returns-else-is_key_hash_byte -}
     (λ c. search laws)
     {- returns -}
-    (λ c. search laws)
-    {- returns-2 -}
     (λ c. search laws))

@@ -3,25 +3,25 @@ use Rattle.origin.proofs.Laws.{laws}
 use Rattle.origin.proofs.read_host.Statement.{statement}
 use Rattle.origin.proofs.read_host.Tie as tie
 
-pub read-host-spec : {M : Type 1} → statement M
-read-host-spec =
+pub read_host_spec : {M : Type 1} → statement M
+read_host_spec =
     tie.close
     (tie.spec
-    {- classes-requires -}
+    {- classes-classes-requires -}
     (λ c κs. search laws)
-    {- host-stop-requires -}
+    {- host_stop-end-requires -}
     (λ c κs. search laws)
-    {- sub-is-host -}
+    {- slice_bounds-is_host-count -}
     (λ c. search laws)
-    {- part-is-host-start -}
+    {- slice_bounds-is_host-start -}
     (λ c. search laws)
-    {- part-is-host-end -}
+    {- slice_bounds-is_host-end -}
     (λ c. search laws)
-    {- is-host-requires -}
+    {- is_host-requires -}
     (λ c κs. search laws)
-    {- read-port-requires -}
+    {- read_port-requires -}
     (λ c κs. search laws)
-    {- returns -}
+    {- returns-then-is_host -}
     (λ c. search laws)
-    {- returns-2 -}
+    {- returns-else-is_host -}
     (λ c. search laws))

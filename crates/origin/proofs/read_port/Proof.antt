@@ -3,37 +3,37 @@ use Rattle.origin.proofs.Laws.{laws}
 use Rattle.origin.proofs.read_port.Statement.{statement}
 use Rattle.origin.proofs.read_port.Tie as tie
 
-pub read-port-spec : {M : Type 1} → statement M
-read-port-spec =
+pub read_port_spec : {M : Type 1} → statement M
+read_port_spec =
     tie.close
     (tie.spec
-    {- no-port-requires -}
+    {- no_port-requires -}
     (λ c κs. search laws)
-    {- returns -}
+    {- returns-then-s-end -}
     (λ c. search laws)
-    {- shared-slice-read-if2 -}
+    {- bounds-s-end -}
     (λ c. search laws)
-    {- no-port-requires-2 -}
+    {- no_port-requires-then-s-end-ne58 -}
     (λ c κs. search laws)
-    {- returns-2 -}
+    {- returns-then-s-end-ne58 -}
     (λ c. search laws)
-    {- add-from -}
+    {- overflow_add-from -}
     (λ c. search laws)
-    {- digits-stop-requires -}
+    {- digits_stop-tail-requires -}
     (λ c κs. search laws)
-    {- sub-port-number -}
+    {- slice_bounds-port_number-count -}
     (λ c. search laws)
-    {- part-port-number-start -}
+    {- slice_bounds-port_number-start -}
     (λ c. search laws)
-    {- part-port-number-end -}
+    {- slice_bounds-port_number-end -}
     (λ c. search laws)
-    {- port-number-requires -}
+    {- port_number-requires -}
     (λ c κs. search laws)
-    {- enum-known-port -}
+    {- enum_known-port -}
     (λ c. search laws)
-    {- enum-told -}
+    {- enum_told-1 -}
     (λ c. search laws)
-    {- returns-3 -}
+    {- returns-in-Value -}
     (λ c. search laws)
-    {- returns-4 -}
+    {- returns-in-Malformed -}
     (λ c. search laws))

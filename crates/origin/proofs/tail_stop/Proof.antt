@@ -8,31 +8,31 @@ use Rattle.origin.proofs.Laws.{laws}
 use Rattle.origin.proofs.tail_stop.Statement.{statement}
 use Rattle.origin.proofs.tail_stop.Tie as tie
 
-abbrev invariant-loop : tie.invariant-loop
-invariant-loop t i₀ i = i + length (take_while is_tail_byte (drop i t)) ≡ length (take_while is_tail_byte t)
+abbrev invariant-loop-i : tie.invariant-loop-i
+invariant-loop-i t i₀ i = i + length (take_while is_tail_byte (drop i t)) ≡ length (take_while is_tail_byte t)
 
-abbrev decreases-loop : tie.decreases-loop
-decreases-loop t i₀ i = length t - i
+abbrev decreases-loop-i : tie.decreases-loop-i
+decreases-loop-i t i₀ i = length t - i
 
-pub tail-stop-spec : {M : Type 1} → statement M
-tail-stop-spec =
+pub tail_stop_spec : {M : Type 1} → statement M
+tail_stop_spec =
     tie.close
     (tie.spec
-    invariant-loop
-    decreases-loop
-    {- loop-holds -}
+    invariant-loop-i
+    decreases-loop-i
+    {- loop-i-init -}
     (λ c. search laws)
-    {- shared-slice-read-is-tail-byte -}
+    {- bounds-t-i -}
     (λ c. search laws)
-    {- is-tail-byte-requires -}
+    {- is_tail_byte-requires -}
     (λ c κs. search laws)
-    {- add-i -}
+    {- overflow_add-i -}
     (λ c. search laws)
-    {- loop-less -}
+    {- loop-i-smaller -}
     (λ c. search laws)
-    {- loop-again -}
+    {- loop-i-preserved -}
+    (λ c. search laws)
+    {- returns-else-is_tail_byte -}
     (λ c. search laws)
     {- returns -}
-    (λ c. search laws)
-    {- returns-2 -}
     (λ c. search laws))

@@ -3,27 +3,27 @@ use Rattle.origin.proofs.Laws.{laws}
 use Rattle.origin.proofs.web_origin.Statement.{statement}
 use Rattle.origin.proofs.web_origin.Tie as tie
 
-pub web-origin-spec : {M : Type 1} → statement M
-web-origin-spec =
+pub web_origin_spec : {M : Type 1} → statement M
+web_origin_spec =
     tie.close
     (tie.spec
-    {- read-https-requires -}
+    {- read_https-requires -}
     (λ c κs. search laws)
-    {- enum-known-p -}
+    {- enum_known-p -}
     (λ c. search laws)
-    {- enum-told -}
+    {- enum_told-1 -}
     (λ c. search laws)
-    {- returns -}
+    {- returns-in_default -}
     (λ c. search laws)
-    {- sub-is-end -}
+    {- slice_bounds-is_end-count -}
     (λ c. search laws)
-    {- part-is-end-start -}
+    {- slice_bounds-is_end-start -}
     (λ c. search laws)
-    {- part-is-end-end -}
+    {- slice_bounds-is_end-end -}
     (λ c. search laws)
-    {- is-end-requires -}
+    {- is_end-requires -}
     (λ c κs. search laws)
-    {- returns-2 -}
+    {- returns-then-is_end -}
     (λ c. search laws)
-    {- returns-3 -}
+    {- returns-else-is_end -}
     (λ c. search laws))
