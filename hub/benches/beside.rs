@@ -1,7 +1,7 @@
 //! Microseconds of every call by two builds of the library, in turn in one process, and their ratio: what a change costs
-//! beside the commit before. Each build is a shared object, made of the library that `rt staticlib facets` builds:
+//! beside the commit before. Each build is a shared object, made of the library that `rt lib` builds in crates/facets:
 //!
-//! `cc -shared -o after.so -Wl,--whole-archive target/staticlib/libfacets.a -Wl,--no-whole-archive`
+//! `cc -shared -o after.so -Wl,--whole-archive crates/facets/out/libfacets.a -Wl,--no-whole-archive`
 //!
 //! `cargo bench --bench beside -- /PATH/before.so /PATH/after.so`; without two paths nothing is measured.
 
