@@ -36,7 +36,7 @@ encode_utf8 c =
     if ltb c 0x10000 then (0xE0 + c / 4096) ∷ (0x80 + c / 64 % 64) ∷ (0x80 + c % 64) ∷ [] else
     (0xF0 + c / 262144 % 8) ∷ (0x80 + c / 4096 % 64) ∷ (0x80 + c / 64 % 64) ∷ (0x80 + c % 64) ∷ []
 
--- ---- a whole text in UTF-8 (crate json, proofs/Utf8First.antt: readJson reads no other)
+-- ---- a whole text in UTF-8 (crate json_values, proofs/Utf8First.antt: read_json reads no other)
 
 -- So many bytes are still due, the next of them from lo to hi; or the text is wrong.
 pub data Due : Type 0 where
