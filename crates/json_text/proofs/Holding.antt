@@ -60,17 +60,19 @@ push_push (some t) x y = go (leb (length (t ++ x)) 512) refl
 -- ---- one byte more
 
 module _ (bytes : Bytes) (n b : ℕ) where
-  pub put_full : 512 ≤ n → Puts bytes n (b ∷ []) bytes 513
-  put_full k = record { kept = refl; is = λ w. full w }
-    where
-      fits_not : (u : Bool) → length bytes ≡ 512 → ltb 512 n ≡ u → push (if u then none else some (take n bytes)) (b ∷ []) ≡ none
-      fits_not true w f = unfold push in refl
-      fits_not false w f =
-          let m : n ≤ 512 = ltb-false 512 n f in
-          unfold push in fit_not (take n bytes ++ b ∷ []) (omega (arith, length-append (take n bytes) (b ∷ []), length-take-le n bytes (omega arith)))
+  no_room : (u : Bool) → 512 ≤ n → length bytes ≡ 512 → ltb 512 n ≡ u → push (if u then none else some (take n bytes)) (b ∷ []) ≡ none
+  unfolding push
+  no_room true k w f = refl
+  no_room false k w f =
+      let m : n ≤ 512 = ltb-false 512 n f in
+      fit_not (take n bytes ++ b ∷ []) (omega (arith, length-append (take n bytes) (b ∷ []), length-take-le n bytes (omega arith)))
 
-      full : length bytes ≡ 512 → held bytes 513 ≡ push (held bytes n) (b ∷ [])
-      full w = unfold held in sym (fits_not (ltb 512 n) w refl)
+  full_held : 512 ≤ n → length bytes ≡ 512 → held bytes 513 ≡ push (held bytes n) (b ∷ [])
+  unfolding held
+  full_held k w = sym (no_room (ltb 512 n) k w refl)
+
+  pub put_full : 512 ≤ n → Puts bytes n (b ∷ []) bytes 513
+  put_full k = record { kept = refl; is = λ w. full_held k w }
 
   pub put_one : n < 512 → Puts bytes n (b ∷ []) (set bytes n b) (n + 1)
   put_one k = record { kept = length-set bytes n b; is = λ w. one w }

@@ -1,5 +1,5 @@
 -- The lexical grammar of JSON (RFC 8259, sections 2, 6 and 7), with its ABNF above each definition.
-use Rattle.std.specs.Prelude.{[], ◌∷◌, ◌++◌, Bool, ◌||◌, ℕ, zero, suc, ◌+◌, ◌-◌, ◌*◌, eqb}
+use Rattle.std.specs.Prelude.{[], ◌++◌, Bool, ◌||◌, ℕ, zero, suc, ◌+◌, ◌-◌, ◌*◌, eqb}
 use Rattle.std.proofs.Math.Option.{Option, none, some}
 use Prim.Native.Char.{code}
 use Rattle.ascii.specs.Ascii.{Bytes, if◌then◌else◌, between, is_digit, text}

@@ -1,5 +1,5 @@
 -- Readers: what stands at the front of a text, and how many bytes it takes up.
-use Rattle.std.specs.Prelude.{[], ◌∷◌, Bool, ◌&&◌, ◌||◌, ℕ, suc, ◌+◌, length, take, drop}
+use Rattle.std.specs.Prelude.{[], ◌∷◌, Bool, ℕ, suc, ◌+◌, length, take, drop}
 use Rattle.std.proofs.Math.Option.{Option, none, some}
 use Rattle.ascii.specs.Ascii.{Bytes, if◌then◌else◌, is_empty, between, among}
 

@@ -1,7 +1,7 @@
 -- UTF-8 (RFC 3629).
-use Rattle.std.specs.Prelude.{[], ◌∷◌, Bool, true, false, ◌&&◌, ℕ, zero, suc, ◌+◌, ◌/◌, ◌%◌, leb, ltb}
+use Rattle.std.specs.Prelude.{[], ◌∷◌, Bool, true, false, ℕ, zero, suc, ◌+◌, ◌/◌, ◌%◌, leb, ltb}
 use Rattle.ascii.specs.Ascii.{Bytes, if◌then◌else◌, between}
-use Rattle.json_text.specs.Reader.{Reader, ◌>>=◌, ◌>>◌, fail, byte_range, lead◌to◌then◌else◌}
+use Rattle.json_text.specs.Reader.{Reader, ◌>>◌, fail, byte_range, lead◌to◌then◌else◌}
 
 -- UTF8-tail = %x80-BF
 abbrev pub utf8_tail : Reader (Unit {0})
@@ -36,7 +36,7 @@ encode_utf8 c =
     if ltb c 0x10000 then (0xE0 + c / 4096) ∷ (0x80 + c / 64 % 64) ∷ (0x80 + c % 64) ∷ [] else
     (0xF0 + c / 262144 % 8) ∷ (0x80 + c / 4096 % 64) ∷ (0x80 + c / 64 % 64) ∷ (0x80 + c % 64) ∷ []
 
--- ---- a whole text in UTF-8 (crate json, proofs/Utf8First.antt: readJson reads no other)
+-- ---- a whole text in UTF-8 (crate json_values, proofs/Utf8First.antt: read_json reads no other)
 
 -- So many bytes are still due, the next of them from lo to hi; or the text is wrong.
 pub data Due : Type 0 where

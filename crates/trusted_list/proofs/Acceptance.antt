@@ -11,7 +11,7 @@ use lib.Dec.{eqb, leb, ltb}
 use borrow.Author.Tests.{eqb-true, leb-true, leb-false, lt-leb}
 use Rattle.ascii.specs.Ascii.{Bytes, if◌then◌else◌, ◌>>=◌, ◌when◌, is_none, is_empty, all, is_digit, text, value, number16}
 use Rattle.ascii.proofs.OptionLaws.{Holds, holds, and_then, chained}
-use Rattle.json.specs.Json.{Json, Jsons, no_item, item, read_json}
+use Rattle.json_values.specs.Json.{Json, Jsons, no_item, item, read_json}
 use Rattle.refusals.specs.declared.Refusal.TheVariants.{LongList, Unreadable, Misshapen, NoVersion}
 use Rattle.trusted_list.specs.TrustedList.{as_object, as_array, as_number, once, read_number16, Version, read_version, read_ids, Listing, read_listing, listings, read_listings, read_list, is_wanted, select, read_body, selected, list_refusal, Accepted}
 

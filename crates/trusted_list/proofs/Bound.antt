@@ -13,8 +13,8 @@ use Rattle.ascii.specs.Ascii.{Bytes, if◌then◌else◌, ◌>>=◌, ◌when◌,
 use Rattle.ascii.proofs.Compare.{same_eq}
 use Rattle.ascii.proofs.OptionLaws.{Holds, holds, and_then, chained}
 use Rattle.ascii.proofs.DecimalLaws.{decimal_shortest}
-use Rattle.json.specs.Json.{Json, literal, number, string, array, object, Jsons, no_item, item, Members, no_member, member, read_json}
-use Rattle.json.proofs.Sizes.{size, items_size, members_size, json_size}
+use Rattle.json_values.specs.Json.{Json, literal, number, string, array, object, Jsons, no_item, item, Members, no_member, member, read_json}
+use Rattle.json_values.proofs.Sizes.{size, items_size, members_size, json_size}
 use Rattle.trusted_list.specs.TrustedList.{as_object, as_array, as_string, as_number, values_of, only, once, read_number16, Version, read_version, strings, read_ids, Listing, read_listing, listings, read_listings, read_list, is_wanted, select, read_body, selected}
 
 -- ---- members by name

@@ -13,7 +13,7 @@ use Rattle.json_text.specs.Reader.{Read, got, bad, Reader, more, peek, fail, ifN
 use Rattle.json_text.specs.Lexical.{read_number, read_string}
 use Rattle.json_text.specs.code.Places.{Peeked, read_at}
 use Rattle.json_text.proofs.Steps.{on, one_yes, next_yes, next_no, fail_at, giving_at, is_one}
-use Rattle.json.specs.Json.{Json, literal, number, string, array, object, Jsons, Members, to_items, to_members, listed, read_member, read_array, read_object, value_of, read_value}
+use Rattle.json_values.specs.Json.{Json, literal, number, string, array, object, Jsons, Members, to_items, to_members, listed, read_member, read_array, read_object, value_of, read_value}
 use Rattle.trusted_list.specs.TrustedList.{as_object, as_array, read_number16}
 use Rattle.trusted_list.specs.code.Slots.{is_string}
 

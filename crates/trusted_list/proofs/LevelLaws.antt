@@ -14,8 +14,8 @@ use Rattle.json_text.specs.code.PlainString.{AsciiString, is_short, is_unknown}
 use Rattle.json_text.specs.declared.Next.{Next}
 use Rattle.json_text.specs.declared.Next.TheVariants.{At, Bad}
 use Rattle.json_text.proofs.Steps.{found, missed}
-use Rattle.json.proofs.Values.{value_string}
-use Rattle.json.specs.Json.{Json, array, object, to_items, to_members, read_member, read_value, value_read, listed}
+use Rattle.json_values.proofs.Values.{value_string}
+use Rattle.json_values.specs.Json.{Json, array, object, to_items, to_members, read_member, read_value, value_read, listed}
 use Rattle.trusted_list.specs.TrustedList.{as_object, as_array, as_string, values_of, only, once, read_number16, Version, read_version, strings, read_ids, Listing, read_listing, listings, read_listings, read_list, is_wanted, select}
 use Rattle.trusted_list.specs.code.Slots.{Relates, Extends, Came, Once, never, one, again, Name, Names, slot_read, two_read, number_slot, NumberIs, version_slot, VersionIs, version_of, ids_at, IdsIs, no_ids, ids_held, is_string, strings_slot, Strings, ListingIs, no_listing, not_wanted, is_wanted_lem, listing_of, Selects, misshapen, nothing, selects, Listings, ListIs, earlier, BodyIs, no_list, list_is}
 use Rattle.trusted_list.specs.declared.Slot.{Slot}

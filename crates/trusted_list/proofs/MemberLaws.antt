@@ -16,7 +16,7 @@ use Rattle.json_text.specs.code.Places.{Peeked, read_at, place_of, fit, content_
 use Rattle.json_text.specs.declared.Next.{Next}
 use Rattle.json_text.specs.declared.Next.TheVariants.{At, Bad}
 use Rattle.json_text.proofs.Steps.{on, then_bad, one_yes, one_no, give_at, giving_at, found, missed, is_one, not_one}
-use Rattle.json.specs.Json.{Json, to_members, read_member, read_value}
+use Rattle.json_values.specs.Json.{Json, to_members, read_member, read_value}
 use Rattle.trusted_list.specs.TrustedList.{values_of}
 use Rattle.trusted_list.specs.code.Slots.{Relates, Extends, Came, Once, never, one, again, Name, Names, slot_read, two_read, member_name, fill}
 use Rattle.trusted_list.specs.declared.Slot.{Slot}

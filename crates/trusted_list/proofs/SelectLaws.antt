@@ -13,7 +13,7 @@ use Rattle.json_text.specs.Reader.{Read, got, bad, more, end_of_text}
 use Rattle.json_text.specs.Lexical.{ws}
 use Rattle.json_text.specs.code.Places.{read_at}
 use Rattle.json_text.proofs.Steps.{on, then_bad, give_at}
-use Rattle.json.specs.Json.{Json, read_value, read_text, value_read, read_json}
+use Rattle.json_values.specs.Json.{Json, read_value, read_text, value_read, read_json}
 use Rattle.refusals.specs.declared.Refusal.TheVariants.{LongList, Unreadable, Misshapen, NoVersion}
 use Rattle.trusted_list.specs.TrustedList.{Listing, read_list, select, read_body, selected, list_refusal, entries}
 use Rattle.trusted_list.specs.code.Slots.{Relates, slot_read, ids_at, Selects, misshapen, nothing, selects, BodyIs, no_list, list_is, Answers, is_refused, is_selected}

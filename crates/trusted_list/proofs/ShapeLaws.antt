@@ -13,8 +13,8 @@ use Rattle.json_text.specs.code.Places.{read_at, place_of}
 use Rattle.json_text.specs.declared.Next.{Next}
 use Rattle.json_text.specs.declared.Next.TheVariants.{At, Bad}
 use Rattle.json_text.proofs.Steps.{found, missed}
-use Rattle.json.specs.Json.{Json, to_members, read_value}
-use Rattle.json.proofs.Sizes.{value_spans}
+use Rattle.json_values.specs.Json.{Json, to_members, read_value}
+use Rattle.json_values.proofs.Sizes.{value_spans}
 use Rattle.trusted_list.specs.TrustedList.{values_of, read_number16}
 use Rattle.trusted_list.specs.code.Slots.{Relates, Came, never, Names, slot_read, number_slot, NumberIs}
 use Rattle.trusted_list.specs.declared.Slot.{Slot}

@@ -10,7 +10,7 @@ use Rattle.json_text.specs.Reader.{Read, got, bad, Reader, give, one_of, â—Œ>>=â
 use Rattle.json_text.specs.Lexical.{ws}
 use Rattle.json_text.specs.code.Places.{Peeked, read_at}
 use Rattle.json_text.proofs.Steps.{on, then_bad, one_yes, one_no, next_yes, next_no, give_at, counted_at, map_give, no_fall, peek_in, is_one, not_one}
-use Rattle.json.specs.Json.{items, listed}
+use Rattle.json_values.specs.Json.{items, listed}
 use Rattle.trusted_list.specs.code.Slots.{Relates, unread, related, Extends, slot_read, two_read}
 use Rattle.trusted_list.specs.declared.Slot.{Slot}
 use Rattle.trusted_list.specs.declared.Two.{Two}

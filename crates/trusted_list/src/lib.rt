@@ -5,7 +5,7 @@
 ghost use Rattle.std.specs.Prelude.{◌≡◌};
 ghost use Rattle.ascii.specs.Ascii.{text};
 ghost use Rattle.json_text.specs.code.Places.{read_at, place_of};
-ghost use Rattle.json.specs.Json.{listed, read_member, read_value};
+ghost use Rattle.json_values.specs.Json.{listed, read_member, read_value};
 ghost use Rattle.trusted_list.specs.code.Entries.{first_entry, next_entry};
 ghost use Rattle.trusted_list.specs.code.Slots.{Relates, Extends, Came, Name, Names, slot_read, two_read, member_name, fill, version_of, listing_of, earlier, NumberIs, VersionIs, IdsIs, ListingIs, ListIs, BodyIs, Strings, Listings, Answers};
 
@@ -84,7 +84,7 @@ fn member_value(s: &[u8], from: usize) -> Next
 fn read_number(s: &[u8], from: usize) -> Found
     ensures { Relates (Came NumberIs) (read_at (read_value 12) s.now from) (slot_read result) }
 {
-    let Next::At(j) = json::skip_value(s, from, 12) else {
+    let Next::At(j) = json_values::skip_value(s, from, 12) else {
         return Found::Wrong;
     };
     let n = ascii::decimals::read_number(&s[from..j]);
@@ -118,7 +118,7 @@ fn version_member(s: &[u8], at: usize, two: Two) -> Walked
         let second = fill(second, y);
         return Walked::Through(j, Two { first, second });
     }
-    let Next::At(j) = json::skip_value(s, k, 12) else {
+    let Next::At(j) = json_values::skip_value(s, k, 12) else {
         return Walked::Stuck;
     };
     Walked::Through(j, two)
@@ -192,7 +192,7 @@ fn read_version(s: &[u8], from: usize, major: u16, minor: u16) -> Found
         let x = version_slot(two, major, minor);
         return Found::Value(j, x);
     }
-    let Next::At(j) = json::skip_value(s, from, 13) else {
+    let Next::At(j) = json_values::skip_value(s, from, 13) else {
         return Found::Wrong;
     };
     Found::Value(j, Slot::Spoiled)
@@ -214,7 +214,7 @@ fn ids_value(s: &[u8], at: usize, two: Two) -> Walked
     ensures { Relates (Extends Strings two) (read_at (read_value 12) s.now at) (two_read result) }
 {
     let b = json_text::byte_at(s, at);
-    let Next::At(j) = json::skip_value(s, at, 12) else {
+    let Next::At(j) = json_values::skip_value(s, at, 12) else {
         return Walked::Stuck;
     };
     if b == QUOTATION_MARK {
@@ -275,7 +275,7 @@ fn read_ids(s: &[u8], from: usize) -> Found
             Slot::Spoiled => Found::Value(j, Slot::Spoiled),
         };
     }
-    let Next::At(j) = json::skip_value(s, from, 13) else {
+    let Next::At(j) = json_values::skip_value(s, from, 13) else {
         return Found::Wrong;
     };
     Found::Value(j, Slot::Spoiled)
@@ -305,7 +305,7 @@ fn listing_member(s: &[u8], at: usize, two: Two, major: u16, minor: u16) -> Walk
         let second = fill(second, y);
         return Walked::Through(j, Two { first, second });
     }
-    let Next::At(j) = json::skip_value(s, k, 13) else {
+    let Next::At(j) = json_values::skip_value(s, k, 13) else {
         return Walked::Stuck;
     };
     Walked::Through(j, two)
@@ -371,7 +371,7 @@ fn read_listing(s: &[u8], from: usize, major: u16, minor: u16) -> Found
         let x = listing_slot(two);
         return Found::Value(j, x);
     }
-    let Next::At(j) = json::skip_value(s, from, 14) else {
+    let Next::At(j) = json_values::skip_value(s, from, 14) else {
         return Found::Wrong;
     };
     Found::Value(j, Slot::Spoiled)
@@ -454,7 +454,7 @@ fn read_list(s: &[u8], from: usize, major: u16, minor: u16) -> Found
         let x = two.first;
         return Found::Value(j, x);
     }
-    let Next::At(j) = json::skip_value(s, from, 15) else {
+    let Next::At(j) = json_values::skip_value(s, from, 15) else {
         return Found::Wrong;
     };
     Found::Value(j, Slot::Spoiled)
@@ -477,7 +477,7 @@ fn body_member(s: &[u8], at: usize, two: Two, major: u16, minor: u16) -> Walked
         let first = fill(first, y);
         return Walked::Through(j, Two { first, second });
     }
-    let Next::At(j) = json::skip_value(s, k, 15) else {
+    let Next::At(j) = json_values::skip_value(s, k, 15) else {
         return Walked::Stuck;
     };
     Walked::Through(j, two)
@@ -524,7 +524,7 @@ fn read_body(s: &[u8], from: usize, major: u16, minor: u16) -> Found
         let x = two.first;
         return Found::Value(j, x);
     }
-    let Next::At(j) = json::skip_value(s, from, 16) else {
+    let Next::At(j) = json_values::skip_value(s, from, 16) else {
         return Found::Wrong;
     };
     Found::Value(j, Slot::Spoiled)

@@ -8,31 +8,31 @@ use Rattle.json_text.proofs.Laws.{blank_laws, fits}
 use Rattle.json_text.proofs.skip_blanks.Statement.{statement}
 use Rattle.json_text.proofs.skip_blanks.Tie as tie
 
-abbrev invariant-loop : tie.invariant-loop
-invariant-loop s from i₀ i = read_at ws s i ≡ read_at ws s from
+abbrev invariant-loop-i : tie.invariant-loop-i
+invariant-loop-i s from i₀ i = read_at ws s i ≡ read_at ws s from
 
-abbrev decreases-loop : tie.decreases-loop
-decreases-loop s from i₀ i = length s - i
+abbrev decreases-loop-i : tie.decreases-loop-i
+decreases-loop-i s from i₀ i = length s - i
 
-pub skip-blanks-spec : {M : Type 1} → statement M
-skip-blanks-spec =
+pub skip_blanks_spec : {M : Type 1} → statement M
+skip_blanks_spec =
     tie.close
     (tie.spec
-    invariant-loop
-    decreases-loop
-    {- loop-holds -}
+    invariant-loop-i
+    decreases-loop-i
+    {- loop-i-init -}
     (λ c. search blank_laws)
-    {- shared-slice-read-is-blank -}
+    {- bounds-s-i -}
     (λ c. search fits)
-    {- is-blank-requires -}
+    {- is_blank-requires -}
     (λ c κs. search fits)
-    {- add-i -}
+    {- overflow_add-i -}
     (λ c. search fits)
-    {- loop-less -}
+    {- loop-i-smaller -}
     (λ c. search blank_laws)
-    {- loop-again -}
+    {- loop-i-preserved -}
+    (λ c. search blank_laws)
+    {- returns-else-is_blank -}
     (λ c. search blank_laws)
     {- returns -}
-    (λ c. search blank_laws)
-    {- returns-2 -}
     (λ c. search blank_laws))

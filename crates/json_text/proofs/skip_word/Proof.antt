@@ -8,35 +8,35 @@ use Rattle.json_text.proofs.Laws.{blank_laws, fits, next_fits}
 use Rattle.json_text.proofs.skip_word.Statement.{statement}
 use Rattle.json_text.proofs.skip_word.Tie as tie
 
-abbrev invariant-loop : tie.invariant-loop
-invariant-loop s from w i₀ k₀ i k = Spelled w s (place_of (read_at (word w) s from)) i k
+abbrev invariant-loop-k : tie.invariant-loop-k
+invariant-loop-k s from w i₀ k₀ i k = Spelled w s (place_of (read_at (word w) s from)) i k
 
-abbrev decreases-loop : tie.decreases-loop
-decreases-loop s from w i₀ k₀ i k = length w - k
+abbrev decreases-loop-k : tie.decreases-loop-k
+decreases-loop-k s from w i₀ k₀ i k = length w - k
 
-pub skip-word-spec : {M : Type 1} → statement M
-skip-word-spec =
+pub skip_word_spec : {M : Type 1} → statement M
+skip_word_spec =
     tie.close
     (tie.spec
-    invariant-loop
-    decreases-loop
-    {- loop-holds -}
+    invariant-loop-k
+    decreases-loop-k
+    {- loop-k-init -}
     (λ c. search blank_laws)
-    {- byte-at-requires -}
+    {- byte_at-requires -}
     (λ c κs. search fits)
-    {- shared-slice-read-wide -}
+    {- bounds-w-k -}
     (λ c. search fits)
     {- wide-requires -}
     (λ c κs. search fits)
-    {- add-i -}
+    {- overflow_add-i -}
     (λ c. search next_fits)
-    {- add-k -}
+    {- overflow_add-k -}
     (λ c. search fits)
-    {- loop-less -}
+    {- loop-k-smaller -}
     (λ c. search blank_laws)
-    {- loop-again -}
+    {- loop-k-preserved -}
+    (λ c. search blank_laws)
+    {- returns-else-byte_at-wide -}
     (λ c. search blank_laws)
     {- returns -}
-    (λ c. search blank_laws)
-    {- returns-2 -}
     (λ c. search blank_laws))

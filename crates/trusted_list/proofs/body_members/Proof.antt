@@ -4,7 +4,7 @@ use mathlib.Core.List.{[], ◌∷◌}
 use lib.ListN.{length}
 use Rattle.ascii.specs.Ascii.{text}
 use Rattle.json_text.specs.code.Places.{read_at}
-use Rattle.json.specs.Json.{listed, read_member, read_value}
+use Rattle.json_values.specs.Json.{listed, read_member, read_value}
 use Rattle.trusted_list.specs.code.Slots.{Name, ListIs}
 use Rattle.trusted_list.proofs.Walks.{Walk}
 use Rattle.trusted_list.proofs.Laws.{fits, walks}

@@ -5,7 +5,7 @@ use Rattle.ascii.specs.Ascii.{Bytes, if◌then◌else◌, is_none, all, text}
 use Rattle.json_text.specs.Reader.{Read, got, bad, Reader, ◌>>=◌, ◌>>◌, give, one_of, ifNext◌then◌else◌}
 use Rattle.json_text.specs.Lexical.{ws, read_string}
 use Rattle.json_text.specs.code.Places.{read_at}
-use Rattle.json.specs.Json.{Json, to_items, to_members, read_value, value_read}
+use Rattle.json_values.specs.Json.{Json, to_items, to_members, read_value, value_read}
 use Rattle.refusals.specs.declared.Refusal.{Refusal}
 use Rattle.trusted_list.specs.TrustedList.{Version, Listing, values_of, as_string, read_number16, read_version, read_ids, read_listing, listings, read_listings, read_list, is_wanted, select, list_refusal, entries}
 use Rattle.trusted_list.specs.declared.Slot.{Slot}

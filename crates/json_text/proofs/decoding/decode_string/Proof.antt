@@ -6,41 +6,41 @@ use Rattle.json_text.proofs.Laws.{decoding_laws, fits}
 use Rattle.json_text.proofs.decoding.decode_string.Statement.{statement}
 use Rattle.json_text.proofs.decoding.decode_string.Tie as tie
 
-abbrev invariant-loop : tie.invariant-loop
-invariant-loop out₀ s from n₀ i₀ out n i = Decodes s from out₀ out n i
+abbrev invariant-loop-from : tie.invariant-loop-from
+invariant-loop-from out₀ s from n₀ i₀ out n i = Decodes s from out₀ out n i
 
-abbrev decreases-loop : tie.decreases-loop
-decreases-loop out₀ s from n₀ i₀ out n i = length s - i
+abbrev decreases-loop-from : tie.decreases-loop-from
+decreases-loop-from out₀ s from n₀ i₀ out n i = length s - i
 
-pub decode-string-spec : {M : Type 1} → statement M
-decode-string-spec =
+pub decode_string_spec : {M : Type 1} → statement M
+decode_string_spec =
     tie.close
     (tie.spec
-    invariant-loop
-    decreases-loop
-    {- byte-at-requires -}
+    invariant-loop-from
+    decreases-loop-from
+    {- byte_at-requires -}
     (λ c κs. search fits)
-    {- returns -}
+    {- returns-then-byte_at-ne-QUOTATION_MARK -}
     (λ c. search decoding_laws)
-    {- add-i -}
+    {- overflow_add-i -}
     (λ c. search fits)
-    {- loop-holds -}
+    {- loop-from-init -}
     (λ c. search decoding_laws)
-    {- byte-at-requires-2 -}
+    {- byte_at-requires-in-loop-from -}
     (λ c κs. search fits)
-    {- add-t12 -}
+    {- overflow_add-result -}
     (λ c. search fits)
-    {- returns-2 -}
+    {- returns-then-byte_at-eq-QUOTATION_MARK -}
     (λ c. search decoding_laws)
-    {- put-char-requires -}
+    {- put_char-requires -}
     (λ c κs. search fits)
-    {- enum-known-m -}
+    {- enum_known-m -}
     (λ c. search fits)
-    {- enum-told -}
+    {- enum_told-1 -}
     (λ c. search fits)
-    {- returns-3 -}
+    {- returns-in_default -}
     (λ c. search decoding_laws)
-    {- loop-less -}
+    {- loop-from-smaller -}
     (λ c. search decoding_laws)
-    {- loop-again -}
+    {- loop-from-preserved -}
     (λ c. search decoding_laws))

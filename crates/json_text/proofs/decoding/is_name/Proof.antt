@@ -3,23 +3,23 @@ use Rattle.json_text.proofs.Laws.{decoding_laws, fits}
 use Rattle.json_text.proofs.decoding.is_name.Statement.{statement}
 use Rattle.json_text.proofs.decoding.is_name.Tie as tie
 
-pub is-name-spec : {M : Type 1} → statement M
-is-name-spec =
+pub is_name_spec : {M : Type 1} → statement M
+is_name_spec =
     tie.close
     (tie.spec
-    {- decode-string-requires -}
+    {- decode_string-requires -}
     (λ c κs. search fits)
-    {- enum-known-n -}
+    {- enum_known-n -}
     (λ c. search fits)
-    {- enum-told -}
+    {- enum_told-1 -}
     (λ c. search fits)
-    {- returns -}
+    {- returns-in_default -}
     (λ c. search decoding_laws)
-    {- returns-2 -}
+    {- returns-then-d-gt512 -}
     (λ c. search decoding_laws)
     {- prefix-requires -}
     (λ c κs. search fits)
     {- equal-requires -}
     (λ c κs. search fits)
-    {- returns-3 -}
+    {- returns -}
     (λ c. search decoding_laws))

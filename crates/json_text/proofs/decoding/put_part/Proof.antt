@@ -5,31 +5,31 @@ use Rattle.json_text.proofs.Laws.{decoding_laws, fits}
 use Rattle.json_text.proofs.decoding.put_part.Statement.{statement}
 use Rattle.json_text.proofs.decoding.put_part.Tie as tie
 
-abbrev invariant-loop : tie.invariant-loop
-invariant-loop out₀ n s from to m₀ i₀ out m i = Part s from to out₀ n out m i
+abbrev invariant-loop-i : tie.invariant-loop-i
+invariant-loop-i out₀ n s from to m₀ i₀ out m i = Part s from to out₀ n out m i
 
-abbrev decreases-loop : tie.decreases-loop
-decreases-loop out₀ n s from to m₀ i₀ out m i = to - i
+abbrev decreases-loop-i : tie.decreases-loop-i
+decreases-loop-i out₀ n s from to m₀ i₀ out m i = to - i
 
-pub put-part-spec : {M : Type 1} → statement M
-put-part-spec =
+pub put_part_spec : {M : Type 1} → statement M
+put_part_spec =
     tie.close
     (tie.spec
-    invariant-loop
-    decreases-loop
-    {- loop-holds -}
+    invariant-loop-i
+    decreases-loop-i
+    {- loop-i-init -}
     (λ c. search decoding_laws)
-    {- shared-slice-read-put -}
+    {- bounds-s-i -}
     (λ c. search fits)
-    {- put-requires -}
+    {- put-m-requires -}
     (λ c κs. search fits)
-    {- add-i -}
+    {- overflow_add-i -}
     (λ c. search fits)
-    {- loop-less -}
+    {- loop-i-smaller -}
     (λ c. search decoding_laws)
-    {- loop-again -}
+    {- loop-i-preserved -}
+    (λ c. search decoding_laws)
+    {- returns-else-i-s -}
     (λ c. search decoding_laws)
     {- returns -}
-    (λ c. search decoding_laws)
-    {- returns-2 -}
     (λ c. search decoding_laws))

@@ -3,7 +3,7 @@ use Rattle.json_text.proofs.Laws.{escape_laws, hex_fits}
 use Rattle.json_text.proofs.escapes.hex_value.Statement.{statement}
 use Rattle.json_text.proofs.escapes.hex_value.Tie as tie
 
-pub hex-value-spec : {M : Type 1} → statement M
-hex-value-spec =
+pub hex_value_spec : {M : Type 1} → statement M
+hex_value_spec =
     tie.close
-    (tie.spec {- add-t6 -} (λ c. search hex_fits) {- add-t8 -} (λ c. search hex_fits) {- returns -} (λ c. search escape_laws) {- returns-2 -} (λ c. search escape_laws) {- returns-3 -} (λ c. search escape_laws) {- returns-4 -} (λ c. search escape_laws) {- returns-5 -} (λ c. search escape_laws) {- returns-6 -} (λ c. search escape_laws) {- returns-7 -} (λ c. search escape_laws))
+    (tie.spec {- overflow_add-result -} (λ c. search hex_fits) {- overflow_add-result-in-97-to-102 -} (λ c. search hex_fits) {- returns-in-48-to-57 -} (λ c. search escape_laws) {- returns-in-65-to-70 -} (λ c. search escape_laws) {- returns-in-97-to-102 -} (λ c. search escape_laws) {- returns-in_default -} (λ c. search escape_laws) {- returns-in_default-2 -} (λ c. search escape_laws) {- returns-in_default-3 -} (λ c. search escape_laws) {- returns-in_default-4 -} (λ c. search escape_laws))

@@ -3,49 +3,49 @@ use Rattle.json_text.proofs.Laws.{escape_laws, hex_fits}
 use Rattle.json_text.proofs.escapes.read_escape.Statement.{statement}
 use Rattle.json_text.proofs.escapes.read_escape.Tie as tie
 
-pub read-escape-spec : {M : Type 1} → statement M
-read-escape-spec =
+pub read_escape_spec : {M : Type 1} → statement M
+read_escape_spec =
     tie.close
     (tie.spec
-    {- byte-at-requires -}
+    {- byte_at-requires -}
     (λ c κs. search hex_fits)
-    {- add-t5 -}
+    {- overflow_add-result -}
     (λ c. search hex_fits)
-    {- add-t6 -}
+    {- overflow_add-result-in-92 -}
     (λ c. search hex_fits)
-    {- add-t7 -}
+    {- overflow_add-result-in-47 -}
     (λ c. search hex_fits)
-    {- add-t8 -}
+    {- overflow_add-result-in-98 -}
     (λ c. search hex_fits)
-    {- add-t9 -}
+    {- overflow_add-result-in-102 -}
     (λ c. search hex_fits)
-    {- add-t10 -}
+    {- overflow_add-result-in-110 -}
     (λ c. search hex_fits)
-    {- add-t11 -}
+    {- overflow_add-result-in-114 -}
     (λ c. search hex_fits)
-    {- add-t12 -}
+    {- overflow_add-result-in-116 -}
     (λ c. search hex_fits)
-    {- add-read-code-point -}
+    {- overflow_add-from -}
     (λ c. search hex_fits)
-    {- read-code-point-requires -}
+    {- read_code_point-requires -}
     (λ c κs. search hex_fits)
-    {- returns -}
+    {- returns-in-34 -}
     (λ c. search escape_laws)
-    {- returns-2 -}
+    {- returns-in-92 -}
     (λ c. search escape_laws)
-    {- returns-3 -}
+    {- returns-in-47 -}
     (λ c. search escape_laws)
-    {- returns-4 -}
+    {- returns-in-98 -}
     (λ c. search escape_laws)
-    {- returns-5 -}
+    {- returns-in-102 -}
     (λ c. search escape_laws)
-    {- returns-6 -}
+    {- returns-in-110 -}
     (λ c. search escape_laws)
-    {- returns-7 -}
+    {- returns-in-114 -}
     (λ c. search escape_laws)
-    {- returns-8 -}
+    {- returns-in-116 -}
     (λ c. search escape_laws)
-    {- returns-9 -}
+    {- returns-in-117 -}
     (λ c. search escape_laws)
-    {- returns-10 -}
+    {- returns-in_default -}
     (λ c. search escape_laws))

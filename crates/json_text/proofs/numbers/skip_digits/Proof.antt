@@ -9,31 +9,31 @@ use Rattle.json_text.proofs.Laws.{fits, number_laws}
 use Rattle.json_text.proofs.numbers.skip_digits.Statement.{statement}
 use Rattle.json_text.proofs.numbers.skip_digits.Tie as tie
 
-abbrev invariant-loop : tie.invariant-loop
-invariant-loop s from i₀ i = read_at (many is_digit) s i ≡ read_at (many is_digit) s from
+abbrev invariant-loop-i : tie.invariant-loop-i
+invariant-loop-i s from i₀ i = read_at (many is_digit) s i ≡ read_at (many is_digit) s from
 
-abbrev decreases-loop : tie.decreases-loop
-decreases-loop s from i₀ i = length s - i
+abbrev decreases-loop-i : tie.decreases-loop-i
+decreases-loop-i s from i₀ i = length s - i
 
-pub skip-digits-spec : {M : Type 1} → statement M
-skip-digits-spec =
+pub skip_digits_spec : {M : Type 1} → statement M
+skip_digits_spec =
     tie.close
     (tie.spec
-    invariant-loop
-    decreases-loop
-    {- loop-holds -}
+    invariant-loop-i
+    decreases-loop-i
+    {- loop-i-init -}
     (λ c. search number_laws)
-    {- shared-slice-read-is-digit -}
+    {- bounds-s-i -}
     (λ c. search fits)
-    {- is-digit-requires -}
+    {- is_digit-requires -}
     (λ c κs. search fits)
-    {- add-i -}
+    {- overflow_add-i -}
     (λ c. search fits)
-    {- loop-less -}
+    {- loop-i-smaller -}
     (λ c. search number_laws)
-    {- loop-again -}
+    {- loop-i-preserved -}
+    (λ c. search number_laws)
+    {- returns-else-is_digit -}
     (λ c. search number_laws)
     {- returns -}
-    (λ c. search number_laws)
-    {- returns-2 -}
     (λ c. search number_laws))

@@ -3,25 +3,25 @@ use Rattle.json_text.proofs.Laws.{fits, number_laws}
 use Rattle.json_text.proofs.numbers.skip_exp.Statement.{statement}
 use Rattle.json_text.proofs.numbers.skip_exp.Tie as tie
 
-pub skip-exp-spec : {M : Type 1} → statement M
-skip-exp-spec =
+pub skip_exp_spec : {M : Type 1} → statement M
+skip_exp_spec =
     tie.close
     (tie.spec
-    {- byte-at-requires -}
+    {- byte_at-requires -}
     (λ c κs. search fits)
-    {- add-skip-sign -}
+    {- overflow_add-from -}
     (λ c. search fits)
-    {- skip-sign-requires -}
+    {- skip_sign-i-requires -}
     (λ c κs. search fits)
-    {- skip-some-digits-requires -}
+    {- skip_some_digits-requires -}
     (λ c κs. search fits)
-    {- enum-known-j -}
+    {- enum_known-j -}
     (λ c. search fits)
-    {- enum-told -}
+    {- enum_told-1 -}
     (λ c. search fits)
-    {- returns -}
+    {- returns-in_default-skip_some_digits -}
     (λ c. search number_laws)
-    {- returns-2 -}
+    {- returns-in-69 -}
     (λ c. search number_laws)
-    {- returns-3 -}
+    {- returns-in_default -}
     (λ c. search number_laws))

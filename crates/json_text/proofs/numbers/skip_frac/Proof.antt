@@ -3,23 +3,23 @@ use Rattle.json_text.proofs.Laws.{fits, number_laws}
 use Rattle.json_text.proofs.numbers.skip_frac.Statement.{statement}
 use Rattle.json_text.proofs.numbers.skip_frac.Tie as tie
 
-pub skip-frac-spec : {M : Type 1} → statement M
-skip-frac-spec =
+pub skip_frac_spec : {M : Type 1} → statement M
+skip_frac_spec =
     tie.close
     (tie.spec
-    {- byte-at-requires -}
+    {- byte_at-requires -}
     (λ c κs. search fits)
-    {- add-skip-some-digits -}
+    {- overflow_add-from -}
     (λ c. search fits)
-    {- skip-some-digits-requires -}
+    {- skip_some_digits-requires -}
     (λ c κs. search fits)
-    {- enum-known-j -}
+    {- enum_known-j -}
     (λ c. search fits)
-    {- enum-told -}
+    {- enum_told-1 -}
     (λ c. search fits)
+    {- returns-in_default -}
+    (λ c. search number_laws)
+    {- returns-then-byte_at-eq-DECIMAL_POINT -}
+    (λ c. search number_laws)
     {- returns -}
-    (λ c. search number_laws)
-    {- returns-2 -}
-    (λ c. search number_laws)
-    {- returns-3 -}
     (λ c. search number_laws))

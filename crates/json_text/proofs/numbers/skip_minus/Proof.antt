@@ -3,5 +3,5 @@ use Rattle.json_text.proofs.Laws.{fits, number_laws}
 use Rattle.json_text.proofs.numbers.skip_minus.Statement.{statement}
 use Rattle.json_text.proofs.numbers.skip_minus.Tie as tie
 
-pub skip-minus-spec : {M : Type 1} → statement M
-skip-minus-spec = tie.close (tie.spec {- byte-at-requires -} (λ c κs. search fits) {- add-result -} (λ c. search fits) {- returns -} (λ c. search number_laws) {- returns-2 -} (λ c. search number_laws))
+pub skip_minus_spec : {M : Type 1} → statement M
+skip_minus_spec = tie.close (tie.spec {- byte_at-requires -} (λ c κs. search fits) {- overflow_add-result -} (λ c. search fits) {- returns-then-byte_at-eq-MINUS -} (λ c. search number_laws) {- returns-else-byte_at-eq-MINUS -} (λ c. search number_laws))

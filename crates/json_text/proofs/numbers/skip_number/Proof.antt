@@ -3,23 +3,23 @@ use Rattle.json_text.proofs.Laws.{fits, number_laws}
 use Rattle.json_text.proofs.numbers.skip_number.Statement.{statement}
 use Rattle.json_text.proofs.numbers.skip_number.Tie as tie
 
-pub skip-number-spec : {M : Type 1} → statement M
-skip-number-spec =
+pub skip_number_spec : {M : Type 1} → statement M
+skip_number_spec =
     tie.close
     (tie.spec
-    {- skip-minus-requires -}
+    {- skip_minus-i-requires -}
     (λ c κs. search fits)
-    {- skip-int-requires -}
+    {- skip_int-requires -}
     (λ c κs. search fits)
-    {- enum-known-j -}
+    {- enum_known-j -}
     (λ c. search fits)
-    {- enum-told -}
+    {- enum_told-1 -}
     (λ c. search fits)
-    {- returns -}
+    {- returns-in_default -}
     (λ c. search number_laws)
-    {- skip-frac-requires -}
+    {- skip_frac-k-requires -}
     (λ c κs. search fits)
-    {- skip-exp-requires -}
+    {- skip_exp-requires -}
     (λ c κs. search fits)
-    {- returns-2 -}
+    {- returns -}
     (λ c. search number_laws))

@@ -3,5 +3,5 @@ use Rattle.json_text.proofs.Laws.{fits, number_laws}
 use Rattle.json_text.proofs.numbers.skip_sign.Statement.{statement}
 use Rattle.json_text.proofs.numbers.skip_sign.Tie as tie
 
-pub skip-sign-spec : {M : Type 1} → statement M
-skip-sign-spec = tie.close (tie.spec {- byte-at-requires -} (λ c κs. search fits) {- add-result -} (λ c. search fits) {- returns -} (λ c. search number_laws) {- returns-2 -} (λ c. search number_laws))
+pub skip_sign_spec : {M : Type 1} → statement M
+skip_sign_spec = tie.close (tie.spec {- byte_at-requires -} (λ c κs. search fits) {- overflow_add-result -} (λ c. search fits) {- returns-in-43 -} (λ c. search number_laws) {- returns-in_default -} (λ c. search number_laws))

@@ -3,5 +3,5 @@ use Rattle.json_text.proofs.Laws.{ascii_laws}
 use Rattle.json_text.proofs.strings.is_ascii_char.Statement.{statement}
 use Rattle.json_text.proofs.strings.is_ascii_char.Tie as tie
 
-pub is-ascii-char-spec : {M : Type 1} → statement M
-is-ascii-char-spec = tie.close (tie.spec {- returns -} (λ c. search ascii_laws) {- returns-2 -} (λ c. search ascii_laws) {- returns-3 -} (λ c. search ascii_laws) {- returns-4 -} (λ c. search ascii_laws))
+pub is_ascii_char_spec : {M : Type 1} → statement M
+is_ascii_char_spec = tie.close (tie.spec {- returns-then-b-lt32 -} (λ c. search ascii_laws) {- returns-then-b-gt127 -} (λ c. search ascii_laws) {- returns-then-b-eq34 -} (λ c. search ascii_laws) {- returns -} (λ c. search ascii_laws))

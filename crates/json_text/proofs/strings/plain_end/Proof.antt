@@ -6,35 +6,35 @@ use Rattle.json_text.proofs.Laws.{plain_laws}
 use Rattle.json_text.proofs.strings.plain_end.Statement.{statement}
 use Rattle.json_text.proofs.strings.plain_end.Tie as tie
 
-abbrev invariant-loop : tie.invariant-loop
-invariant-loop s from i₀ i = Scans s from i
+abbrev invariant-loop-i : tie.invariant-loop-i
+invariant-loop-i s from i₀ i = Scans s from i
 
-abbrev decreases-loop : tie.decreases-loop
-decreases-loop s from i₀ i = length s - i
+abbrev decreases-loop-i : tie.decreases-loop-i
+decreases-loop-i s from i₀ i = length s - i
 
-pub plain-end-spec : {M : Type 1} → statement M
-plain-end-spec =
+pub plain_end_spec : {M : Type 1} → statement M
+plain_end_spec =
     tie.close
     (tie.spec
-    invariant-loop
-    decreases-loop
+    invariant-loop-i
+    decreases-loop-i
+    {- returns-then-s-from -}
+    (λ c. search plain_laws)
+    {- overflow_add-i -}
+    (λ c. search plain_laws)
+    {- loop-i-init -}
+    (λ c. search plain_laws)
+    {- bounds-s-i -}
+    (λ c. search plain_laws)
+    {- returns-then-b-eq34 -}
+    (λ c. search plain_laws)
+    {- returns-then-b-eq92 -}
+    (λ c. search plain_laws)
+    {- overflow_add-i-in-loop-i -}
+    (λ c. search plain_laws)
+    {- loop-i-smaller -}
+    (λ c. search plain_laws)
+    {- loop-i-preserved -}
+    (λ c. search plain_laws)
     {- returns -}
-    (λ c. search plain_laws)
-    {- add-i -}
-    (λ c. search plain_laws)
-    {- loop-holds -}
-    (λ c. search plain_laws)
-    {- shared-slice-read-b -}
-    (λ c. search plain_laws)
-    {- returns-2 -}
-    (λ c. search plain_laws)
-    {- returns-3 -}
-    (λ c. search plain_laws)
-    {- add-i-2 -}
-    (λ c. search plain_laws)
-    {- loop-less -}
-    (λ c. search plain_laws)
-    {- loop-again -}
-    (λ c. search plain_laws)
-    {- returns-4 -}
     (λ c. search plain_laws))

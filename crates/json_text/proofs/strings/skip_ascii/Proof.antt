@@ -9,31 +9,31 @@ use Rattle.json_text.proofs.Laws.{ascii_laws}
 use Rattle.json_text.proofs.strings.skip_ascii.Statement.{statement}
 use Rattle.json_text.proofs.strings.skip_ascii.Tie as tie
 
-abbrev invariant-loop : tie.invariant-loop
-invariant-loop s from i₀ i = read_at (many is_ascii_char) s i ≡ read_at (many is_ascii_char) s from
+abbrev invariant-loop-i : tie.invariant-loop-i
+invariant-loop-i s from i₀ i = read_at (many is_ascii_char) s i ≡ read_at (many is_ascii_char) s from
 
-abbrev decreases-loop : tie.decreases-loop
-decreases-loop s from i₀ i = length s - i
+abbrev decreases-loop-i : tie.decreases-loop-i
+decreases-loop-i s from i₀ i = length s - i
 
-pub skip-ascii-spec : {M : Type 1} → statement M
-skip-ascii-spec =
+pub skip_ascii_spec : {M : Type 1} → statement M
+skip_ascii_spec =
     tie.close
     (tie.spec
-    invariant-loop
-    decreases-loop
-    {- loop-holds -}
+    invariant-loop-i
+    decreases-loop-i
+    {- loop-i-init -}
     (λ c. search ascii_laws)
-    {- shared-slice-read-is-ascii-char -}
+    {- bounds-s-i -}
     (λ c. search ascii_laws)
-    {- is-ascii-char-requires -}
+    {- is_ascii_char-requires -}
     (λ c κs. search ascii_laws)
-    {- add-i -}
+    {- overflow_add-i -}
     (λ c. search ascii_laws)
-    {- loop-less -}
+    {- loop-i-smaller -}
     (λ c. search ascii_laws)
-    {- loop-again -}
+    {- loop-i-preserved -}
+    (λ c. search ascii_laws)
+    {- returns-else-is_ascii_char -}
     (λ c. search ascii_laws)
     {- returns -}
-    (λ c. search ascii_laws)
-    {- returns-2 -}
     (λ c. search ascii_laws))

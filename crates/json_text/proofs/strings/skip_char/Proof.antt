@@ -3,31 +3,31 @@ use Rattle.json_text.proofs.Laws.{fits, string_laws}
 use Rattle.json_text.proofs.strings.skip_char.Statement.{statement}
 use Rattle.json_text.proofs.strings.skip_char.Tie as tie
 
-pub skip-char-spec : {M : Type 1} → statement M
-skip-char-spec =
+pub skip_char_spec : {M : Type 1} → statement M
+skip_char_spec =
     tie.close
     (tie.spec
-    {- byte-at-requires -}
+    {- byte_at-b-requires -}
     (λ c κs. search fits)
-    {- add-read-escape -}
+    {- overflow_add-from -}
     (λ c. search fits)
-    {- read-escape-requires -}
+    {- read_escape-requires -}
     (λ c κs. search fits)
-    {- enum-known-c -}
+    {- enum_known-c -}
     (λ c. search fits)
-    {- enum-told -}
+    {- enum_told-1 -}
     (λ c. search fits)
+    {- returns-in_default -}
+    (λ c. search string_laws)
+    {- returns-then-b-eq-ESCAPE -}
+    (λ c. search string_laws)
+    {- overflow_add-from-then-b-le223 -}
+    (λ c. search fits)
+    {- skip_range-requires -}
+    (λ c κs. search fits)
+    {- returns-then-b-le223 -}
+    (λ c. search string_laws)
+    {- skip_unescaped-requires -}
+    (λ c κs. search fits)
     {- returns -}
-    (λ c. search string_laws)
-    {- returns-2 -}
-    (λ c. search string_laws)
-    {- add-skip-range -}
-    (λ c. search fits)
-    {- skip-range-requires -}
-    (λ c κs. search fits)
-    {- returns-3 -}
-    (λ c. search string_laws)
-    {- skip-unescaped-requires -}
-    (λ c κs. search fits)
-    {- returns-4 -}
     (λ c. search string_laws))

@@ -9,35 +9,35 @@ use Rattle.json_text.proofs.Laws.{fits, string_laws}
 use Rattle.json_text.proofs.strings.skip_chars.Statement.{statement}
 use Rattle.json_text.proofs.strings.skip_chars.Tie as tie
 
-abbrev invariant-loop : tie.invariant-loop
-invariant-loop s from i₀ i = Spells s (place_of (read_at (counted read_chars) s from)) i
+abbrev invariant-loop-from : tie.invariant-loop-from
+invariant-loop-from s from i₀ i = Spells s (place_of (read_at (counted read_chars) s from)) i
 
-abbrev decreases-loop : tie.decreases-loop
-decreases-loop s from i₀ i = length s - i
+abbrev decreases-loop-from : tie.decreases-loop-from
+decreases-loop-from s from i₀ i = length s - i
 
-pub skip-chars-spec : {M : Type 1} → statement M
-skip-chars-spec =
+pub skip_chars_spec : {M : Type 1} → statement M
+skip_chars_spec =
     tie.close
     (tie.spec
-    invariant-loop
-    decreases-loop
-    {- loop-holds -}
+    invariant-loop-from
+    decreases-loop-from
+    {- loop-from-init -}
     (λ c. search string_laws)
-    {- byte-at-requires -}
+    {- byte_at-requires -}
     (λ c κs. search fits)
-    {- add-t7 -}
+    {- overflow_add-result -}
     (λ c. search fits)
-    {- returns -}
+    {- returns-then-byte_at-eq-QUOTATION_MARK -}
     (λ c. search string_laws)
-    {- skip-char-requires -}
+    {- skip_char-requires -}
     (λ c κs. search fits)
-    {- enum-known-j -}
+    {- enum_known-j -}
     (λ c. search fits)
-    {- enum-told -}
+    {- enum_told-1 -}
     (λ c. search fits)
-    {- returns-2 -}
+    {- returns-in_default -}
     (λ c. search string_laws)
-    {- loop-less -}
+    {- loop-from-smaller -}
     (λ c. search string_laws)
-    {- loop-again -}
+    {- loop-from-preserved -}
     (λ c. search string_laws))

@@ -3,61 +3,61 @@ use Rattle.json_text.proofs.Laws.{fits, unescaped_laws}
 use Rattle.json_text.proofs.unescaped.skip_multibyte.Statement.{statement}
 use Rattle.json_text.proofs.unescaped.skip_multibyte.Tie as tie
 
-pub skip-multibyte-spec : {M : Type 1} → statement M
-skip-multibyte-spec =
+pub skip_multibyte_spec : {M : Type 1} → statement M
+skip_multibyte_spec =
     tie.close
     (tie.spec
-    {- byte-at-requires -}
+    {- byte_at-b-requires -}
     (λ c κs. search fits)
+    {- returns-then-b-lt194 -}
+    (λ c. search unescaped_laws)
+    {- overflow_add-from -}
+    (λ c. search fits)
+    {- skip_range-requires -}
+    (λ c κs. search fits)
+    {- returns-then-b-le223 -}
+    (λ c. search unescaped_laws)
+    {- overflow_add-from-then-b-eq224 -}
+    (λ c. search fits)
+    {- skip_with_tail-requires -}
+    (λ c κs. search fits)
+    {- returns-then-b-eq224 -}
+    (λ c. search unescaped_laws)
+    {- overflow_add-from-then-b-le236 -}
+    (λ c. search fits)
+    {- skip_with_tail-requires-then-b-le236 -}
+    (λ c κs. search fits)
+    {- returns-then-b-le236 -}
+    (λ c. search unescaped_laws)
+    {- overflow_add-from-then-b-eq237 -}
+    (λ c. search fits)
+    {- skip_with_tail-requires-then-b-eq237 -}
+    (λ c κs. search fits)
+    {- returns-then-b-eq237 -}
+    (λ c. search unescaped_laws)
+    {- overflow_add-from-then-b-le239 -}
+    (λ c. search fits)
+    {- skip_with_tail-requires-then-b-le239 -}
+    (λ c κs. search fits)
+    {- returns-then-b-le239 -}
+    (λ c. search unescaped_laws)
+    {- overflow_add-from-then-b-eq240 -}
+    (λ c. search fits)
+    {- skip_with_tails-requires -}
+    (λ c κs. search fits)
+    {- returns-then-b-eq240 -}
+    (λ c. search unescaped_laws)
+    {- overflow_add-from-then-b-le243 -}
+    (λ c. search fits)
+    {- skip_with_tails-requires-then-b-le243 -}
+    (λ c κs. search fits)
+    {- returns-then-b-le243 -}
+    (λ c. search unescaped_laws)
+    {- overflow_add-from-then-b-eq244 -}
+    (λ c. search fits)
+    {- skip_with_tails-requires-then-b-eq244 -}
+    (λ c κs. search fits)
+    {- returns-then-b-eq244 -}
+    (λ c. search unescaped_laws)
     {- returns -}
-    (λ c. search unescaped_laws)
-    {- add-skip-range -}
-    (λ c. search fits)
-    {- skip-range-requires -}
-    (λ c κs. search fits)
-    {- returns-2 -}
-    (λ c. search unescaped_laws)
-    {- add-skip-with-tail -}
-    (λ c. search fits)
-    {- skip-with-tail-requires -}
-    (λ c κs. search fits)
-    {- returns-3 -}
-    (λ c. search unescaped_laws)
-    {- add-skip-with-tail-2 -}
-    (λ c. search fits)
-    {- skip-with-tail-requires-2 -}
-    (λ c κs. search fits)
-    {- returns-4 -}
-    (λ c. search unescaped_laws)
-    {- add-skip-with-tail-3 -}
-    (λ c. search fits)
-    {- skip-with-tail-requires-3 -}
-    (λ c κs. search fits)
-    {- returns-5 -}
-    (λ c. search unescaped_laws)
-    {- add-skip-with-tail-4 -}
-    (λ c. search fits)
-    {- skip-with-tail-requires-4 -}
-    (λ c κs. search fits)
-    {- returns-6 -}
-    (λ c. search unescaped_laws)
-    {- add-skip-with-tails -}
-    (λ c. search fits)
-    {- skip-with-tails-requires -}
-    (λ c κs. search fits)
-    {- returns-7 -}
-    (λ c. search unescaped_laws)
-    {- add-skip-with-tails-2 -}
-    (λ c. search fits)
-    {- skip-with-tails-requires-2 -}
-    (λ c κs. search fits)
-    {- returns-8 -}
-    (λ c. search unescaped_laws)
-    {- add-skip-with-tails-3 -}
-    (λ c. search fits)
-    {- skip-with-tails-requires-3 -}
-    (λ c κs. search fits)
-    {- returns-9 -}
-    (λ c. search unescaped_laws)
-    {- returns-10 -}
     (λ c. search unescaped_laws))

@@ -3,7 +3,7 @@ use mathlib.Core.Path.{◌≡◌, refl, sym, ap, ◌∙◌}
 use mathlib.Core.List.{List, [], ◌∷◌, ◌++◌, append_assoc, append-nil}
 use mathlib.Core.Bool.{Bool, true, false, ◌&&◌, not, and-eq-true_iff}
 use mathlib.Core.Option.{some}
-use Prim.Native.Nat.{ℕ, zero, suc, ◌+◌, ◌≤◌, ◌<◌}
+use Prim.Native.Nat.{ℕ, zero, suc, ◌≤◌, ◌<◌}
 use native.Mathlib.Nat.{le_of_suc-le-suc, not-suc-le-zero}
 use native.Mathlib.Omega.{arith}
 use lib.ListN.{length, length-append}
@@ -13,7 +13,7 @@ use borrow.Author.Tests.{leb-true, leb-false, eq-eqb, ne_eqb, eqb-true}
 use Rattle.ascii.specs.Ascii.{Bytes, if◌then◌else◌, between, among, is_digit}
 use Rattle.json_text.specs.Reader.{got, bad, Reader, more, behind, ◌>>=◌, ◌>>◌, give, end_of_text, peek, satisfy, one_of, byte_range, count_while, many, ifNext◌then◌else◌, lead◌to◌then◌else◌, either_read, ◌or◌, mapped, ◌giving◌, as_written, verbatim, counted}
 use Rattle.json_text.specs.Lexical.{is_blank, ws, int, frac, exp, read_number, unescaped, read_char, read_chars, read_string}
-use Rattle.json.specs.Json.{Json, number, string, array, object, to_items, to_members, items, listed, read_member, read_array, read_object, value_of, read_value, read_text, value_read, read_json}
+use Rattle.json_values.specs.Json.{Json, number, string, array, object, to_items, to_members, items, listed, read_member, read_array, read_object, value_of, read_value, read_text, value_read, read_json}
 use Rattle.json_text.proofs.Steps.{inside, above}
 
 -- p reads the value a from the bytes x, where t stands behind them

@@ -7,7 +7,7 @@ use lib.ListN.{length, drop, length-drop}
 use Rattle.ascii.specs.Ascii.{Bytes}
 use Rattle.json_text.specs.Reader.{got, Reader, give, one_of, ◌>>◌, ifNext◌then◌else◌}
 use Rattle.json_text.specs.Lexical.{ws}
-use Rattle.json.specs.Json.{items, listed}
+use Rattle.json_values.specs.Json.{items, listed}
 use Rattle.json_text.specs.code.Places.{Peeked, read_at, place_of}
 use Rattle.json_text.specs.declared.Next.{Next}
 use Rattle.json_text.specs.declared.Next.TheVariants.{At, Bad}

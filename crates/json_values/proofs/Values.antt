@@ -9,10 +9,10 @@ use lib.Seq.{drop-cons}
 use lib.Dec.{leb}
 use borrow.Author.Tests.{leb-true, leb-false}
 use native.Mathlib.Nat.{add-zero}
-use Rattle.ascii.specs.Ascii.{Bytes, if◌then◌else◌, is_none}
-use Rattle.json_text.specs.Reader.{Read, got, bad, Reader, more, fail, end_of_text, word, ifNext◌then◌else◌, ◌giving◌, verbatim}
+use Rattle.ascii.specs.Ascii.{Bytes, is_none}
+use Rattle.json_text.specs.Reader.{Read, got, bad, Reader, more, fail, end_of_text, word, ifNext◌then◌else◌, verbatim}
 use Rattle.json_text.specs.Lexical.{ws, read_number, read_string}
-use Rattle.json.specs.Json.{Json, literal, number, string, listed, read_member, read_array, read_object, value_of, read_value, read_text, value_read, read_json}
+use Rattle.json_values.specs.Json.{Json, literal, number, string, listed, read_member, read_array, read_object, value_of, read_value, read_text, value_read, read_json}
 use Rattle.json_text.specs.code.Places.{Peeked, read_at, place_of}
 use Rattle.json_text.specs.declared.Next.{Next}
 use Rattle.json_text.specs.declared.Next.TheVariants.{At, Bad}

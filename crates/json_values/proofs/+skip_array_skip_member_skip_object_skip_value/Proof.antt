@@ -1,34 +1,33 @@
--- `json::+skip_array_skip_member_skip_object_skip_value` meets its contract.
-use mathlib.Core.List.{[], ◌∷◌}
+-- `json_values::+skip_array_skip_member_skip_object_skip_value` meets its contract.
 use Prim.Native.Nat.{◌+◌, ◌*◌, ◌-◌}
 use lib.ListN.{length}
 use Rattle.ascii.specs.Ascii.{text}
-use Rattle.json.specs.Json.{listed, read_member, read_value}
+use Rattle.json_values.specs.Json.{listed, read_member, read_value}
 use Rattle.json_text.specs.code.Places.{read_at, place_of}
-use Rattle.json.proofs.Items.{Loop}
-use Rattle.json.proofs.Laws.{fits, laws}
+use Rattle.json_values.proofs.Items.{Loop}
+use Rattle.json_values.proofs.Laws.{fits, laws}
 use Prim.Native.Nat.{ℕ, ◌<◌}
 use borrow.Fn.Kinds.{In}
 use borrow.Fn.PlainCycle.{Measures, is, falls, and}
-use Rattle.json.proofs.skip_array.Reads as skip-array
-use Rattle.json.proofs.skip_array.Kinds as skip-array-kinds
-use Rattle.json.proofs.+skip_array_skip_member_skip_object_skip_value.Lts-skip_array as skip-array-lts
-use Rattle.json.proofs.skip_member.Reads as skip-member
-use Rattle.json.proofs.skip_member.Kinds as skip-member-kinds
-use Rattle.json.proofs.+skip_array_skip_member_skip_object_skip_value.Lts-skip_member as skip-member-lts
-use Rattle.json.proofs.skip_object.Reads as skip-object
-use Rattle.json.proofs.skip_object.Kinds as skip-object-kinds
-use Rattle.json.proofs.+skip_array_skip_member_skip_object_skip_value.Lts-skip_object as skip-object-lts
-use Rattle.json.proofs.skip_value.Reads as skip-value
-use Rattle.json.proofs.skip_value.Kinds as skip-value-kinds
-use Rattle.json.proofs.+skip_array_skip_member_skip_object_skip_value.Lts-skip_value as skip-value-lts
+use Rattle.json_values.proofs.skip_array.Reads as skip-array
+use Rattle.json_values.proofs.skip_array.Kinds as skip-array-kinds
+use Rattle.json_values.proofs.+skip_array_skip_member_skip_object_skip_value.Lts-skip_array as skip-array-lts
+use Rattle.json_values.proofs.skip_member.Reads as skip-member
+use Rattle.json_values.proofs.skip_member.Kinds as skip-member-kinds
+use Rattle.json_values.proofs.+skip_array_skip_member_skip_object_skip_value.Lts-skip_member as skip-member-lts
+use Rattle.json_values.proofs.skip_object.Reads as skip-object
+use Rattle.json_values.proofs.skip_object.Kinds as skip-object-kinds
+use Rattle.json_values.proofs.+skip_array_skip_member_skip_object_skip_value.Lts-skip_object as skip-object-lts
+use Rattle.json_values.proofs.skip_value.Reads as skip-value
+use Rattle.json_values.proofs.skip_value.Kinds as skip-value-kinds
+use Rattle.json_values.proofs.+skip_array_skip_member_skip_object_skip_value.Lts-skip_value as skip-value-lts
 use Rattle.json_text.proofs.byte_at.Reads as byte-at-reads
 use Rattle.json_text.proofs.numbers.skip_number.Reads as skip-number-reads
 use Rattle.json_text.proofs.skip_blanks.Reads as skip-blanks-reads
 use Rattle.json_text.proofs.skip_word.Reads as skip-word-reads
 use Rattle.json_text.proofs.strings.skip_string.Reads as skip-string-reads
-use Rattle.json.proofs.+skip_array_skip_member_skip_object_skip_value.{statement}
-use Rattle.json.proofs.+skip_array_skip_member_skip_object_skip_value.Tie.{close}
+use Rattle.json_values.proofs.+skip_array_skip_member_skip_object_skip_value.{statement}
+use Rattle.json_values.proofs.+skip_array_skip_member_skip_object_skip_value.Tie.{close}
 
 abbrev μ-skip-array : Measures 1 skip-array-kinds.ps ℕ
 μ-skip-array κs a = 3 * a.1.1.0 + 2
@@ -74,20 +73,20 @@ abbrev skip-value-below : ℕ → In 1 skip-value-kinds.ps
 skip-value-below t =
     and 1 skip-value-kinds.ps (falls 1 skip-value-kinds.ps ◌<◌ μ-skip-value t) skip-value.Pre
 
-abbrev skip-array-Inv-loop : skip-array-lts.invariant-loop
+abbrev skip-array-Inv-loop : skip-array-lts.invariant-loop-j
 skip-array-Inv-loop s from left first at₀ at = Loop (read_value left) 93 s (place_of (read_at (listed (read_value left) (text "]")) s from)) at
 
-abbrev skip-array-μ-loop : skip-array-lts.decreases-loop
+abbrev skip-array-μ-loop : skip-array-lts.decreases-loop-j
 skip-array-μ-loop s from left first at₀ at = length s - at
 
-abbrev skip-object-Inv-loop : skip-object-lts.invariant-loop
+abbrev skip-object-Inv-loop : skip-object-lts.invariant-loop-j
 skip-object-Inv-loop s from left first at₀ at = Loop (read_member (read_value left)) 125 s (place_of (read_at (listed (read_member (read_value left)) (text "}")) s from)) at
 
-abbrev skip-object-μ-loop : skip-object-lts.decreases-loop
+abbrev skip-object-μ-loop : skip-object-lts.decreases-loop-j
 skip-object-μ-loop s from left first at₀ at = length s - at
 
-pub +skip-array-skip-member-skip-object-skip-value-spec : {M : Type 1} → statement M
-+skip-array-skip-member-skip-object-skip-value-spec =
+pub +skip_array_skip_member_skip_object_skip_value_spec : {M : Type 1} → statement M
++skip_array_skip_member_skip_object_skip_value_spec =
     close μ-skip-array μ-skip-member μ-skip-object μ-skip-value (λ t. skip-array-lts.spec (
       skip-blanks-reads.Asked,
       skip-blanks-reads.Learnt,
@@ -100,41 +99,41 @@ pub +skip-array-skip-member-skip-object-skip-value-spec : {M : Type 1} → state
     skip-array.Post
     skip-array-Inv-loop
     skip-array-μ-loop
-    {- skip-array-skip-blanks-requires -}
+    {- skip_array-skip_blanks-first-requires -}
     (λ c κs. search fits)
-    {- skip-array-byte-at-requires -}
+    {- skip_array-byte_at-requires -}
     (λ c κs. search fits)
-    {- skip-array-add-t11 -}
+    {- skip_array-overflow_add-result -}
     (λ c. search fits)
-    {- skip-array-returns -}
+    {- skip_array-returns-then-byte_at-eq-END_ARRAY -}
     (λ c. search laws)
-    {- skip-array-loop-holds -}
+    {- skip_array-loop-j-init -}
     (λ c. search laws)
-    {- skip-array-skip-value-requires -}
+    {- skip_array-skip_value-requires -}
     (λ c κs. search fits)
-    {- skip-array-enum-known-j -}
+    {- skip_array-enum_known-j -}
     (λ c. search fits)
-    {- skip-array-enum-told -}
+    {- skip_array-enum_told-1 -}
     (λ c. search fits)
-    {- skip-array-returns-2 -}
+    {- skip_array-returns-in_default -}
     (λ c. search laws)
-    {- skip-array-skip-blanks-requires-2 -}
+    {- skip_array-skip_blanks-k-requires -}
     (λ c κs. search fits)
-    {- skip-array-byte-at-requires-2 -}
+    {- skip_array-byte_at-b-requires -}
     (λ c κs. search fits)
-    {- skip-array-add-t14 -}
+    {- skip_array-overflow_add-result-then-b-eq-END_ARRAY -}
     (λ c. search fits)
-    {- skip-array-returns-3 -}
+    {- skip_array-returns-then-b-eq-END_ARRAY -}
     (λ c. search laws)
-    {- skip-array-returns-4 -}
+    {- skip_array-returns-then-b-ne-VALUE_SEPARATOR -}
     (λ c. search laws)
-    {- skip-array-add-skip-blanks -}
+    {- skip_array-overflow_add-k -}
     (λ c. search fits)
-    {- skip-array-skip-blanks-requires-3 -}
+    {- skip_array-skip_blanks-at-requires -}
     (λ c κs. search fits)
-    {- skip-array-loop-less -}
+    {- skip_array-loop-j-smaller -}
     (λ c. search laws)
-    {- skip-array-loop-again -}
+    {- skip_array-loop-j-preserved -}
     (λ c. search laws))
     (λ t. skip-member-lts.spec (
       skip-string-reads.Asked,
@@ -148,27 +147,27 @@ pub +skip-array-skip-member-skip-object-skip-value-spec : {M : Type 1} → state
     )
     (skip-member-at t)
     skip-member.Post
-    {- skip-member-skip-string-requires -}
+    {- skip_member-skip_string-requires -}
     (λ c κs. search fits)
-    {- skip-member-enum-known-i -}
+    {- skip_member-enum_known-i -}
     (λ c. search fits)
-    {- skip-member-enum-told -}
+    {- skip_member-enum_told-1 -}
     (λ c. search fits)
-    {- skip-member-returns -}
+    {- skip_member-returns-in_default -}
     (λ c. search laws)
-    {- skip-member-skip-blanks-requires -}
+    {- skip_member-skip_blanks-j-requires -}
     (λ c κs. search fits)
-    {- skip-member-byte-at-requires -}
+    {- skip_member-byte_at-requires -}
     (λ c κs. search fits)
-    {- skip-member-returns-2 -}
+    {- skip_member-returns-then-byte_at-ne-NAME_SEPARATOR -}
     (λ c. search laws)
-    {- skip-member-add-skip-blanks -}
+    {- skip_member-overflow_add-j -}
     (λ c. search fits)
-    {- skip-member-skip-blanks-requires-2 -}
+    {- skip_member-skip_blanks-k-requires -}
     (λ c κs. search fits)
-    {- skip-member-skip-value-requires -}
+    {- skip_member-skip_value-requires -}
     (λ c κs. search fits)
-    {- skip-member-returns-3 -}
+    {- skip_member-returns -}
     (λ c. search laws))
     (λ t. skip-object-lts.spec (
       skip-blanks-reads.Asked,
@@ -182,41 +181,41 @@ pub +skip-array-skip-member-skip-object-skip-value-spec : {M : Type 1} → state
     skip-object.Post
     skip-object-Inv-loop
     skip-object-μ-loop
-    {- skip-object-skip-blanks-requires -}
+    {- skip_object-skip_blanks-first-requires -}
     (λ c κs. search fits)
-    {- skip-object-byte-at-requires -}
+    {- skip_object-byte_at-requires -}
     (λ c κs. search fits)
-    {- skip-object-add-t11 -}
+    {- skip_object-overflow_add-result -}
     (λ c. search fits)
-    {- skip-object-returns -}
+    {- skip_object-returns-then-byte_at-eq-END_OBJECT -}
     (λ c. search laws)
-    {- skip-object-loop-holds -}
+    {- skip_object-loop-j-init -}
     (λ c. search laws)
-    {- skip-object-skip-member-requires -}
+    {- skip_object-skip_member-requires -}
     (λ c κs. search fits)
-    {- skip-object-enum-known-j -}
+    {- skip_object-enum_known-j -}
     (λ c. search fits)
-    {- skip-object-enum-told -}
+    {- skip_object-enum_told-1 -}
     (λ c. search fits)
-    {- skip-object-returns-2 -}
+    {- skip_object-returns-in_default -}
     (λ c. search laws)
-    {- skip-object-skip-blanks-requires-2 -}
+    {- skip_object-skip_blanks-k-requires -}
     (λ c κs. search fits)
-    {- skip-object-byte-at-requires-2 -}
+    {- skip_object-byte_at-b-requires -}
     (λ c κs. search fits)
-    {- skip-object-add-t14 -}
+    {- skip_object-overflow_add-result-then-b-eq-END_OBJECT -}
     (λ c. search fits)
-    {- skip-object-returns-3 -}
+    {- skip_object-returns-then-b-eq-END_OBJECT -}
     (λ c. search laws)
-    {- skip-object-returns-4 -}
+    {- skip_object-returns-then-b-ne-VALUE_SEPARATOR -}
     (λ c. search laws)
-    {- skip-object-add-skip-blanks -}
+    {- skip_object-overflow_add-k -}
     (λ c. search fits)
-    {- skip-object-skip-blanks-requires-3 -}
+    {- skip_object-skip_blanks-at-requires -}
     (λ c κs. search fits)
-    {- skip-object-loop-less -}
+    {- skip_object-loop-j-smaller -}
     (λ c. search laws)
-    {- skip-object-loop-again -}
+    {- skip_object-loop-j-preserved -}
     (λ c. search laws))
     λ t. skip-value-lts.spec (
       byte-at-reads.Asked,
@@ -234,51 +233,45 @@ pub +skip-array-skip-member-skip-object-skip-value-spec : {M : Type 1} → state
     )
     (skip-value-at t)
     skip-value.Post
-    {- skip-value-byte-at-requires -}
+    {- skip_value-byte_at-requires -}
     (λ c κs. search fits)
-    {- skip-value-skip-string-requires -}
+    {- skip_value-skip_string-requires -}
     (λ c κs. search fits)
-    {- skip-value-returns -}
+    {- skip_value-returns-then-left-eq0 -}
     (λ c. search laws)
-    {- skip-value-add-skip-array -}
+    {- skip_value-overflow_add-from -}
     (λ c. search fits)
-    {- skip-value-sub-skip-array -}
+    {- skip_value-overflow_sub-left -}
     (λ c. search fits)
-    {- skip-value-skip-array-requires -}
+    {- skip_value-skip_array-requires -}
     (λ c κs. search fits)
-    {- skip-value-returns-2 -}
+    {- skip_value-returns-then-left-eq0-2 -}
     (λ c. search laws)
-    {- skip-value-add-skip-object -}
+    {- skip_value-overflow_add-from-in-123 -}
     (λ c. search fits)
-    {- skip-value-sub-skip-object -}
+    {- skip_value-overflow_sub-left-in-123 -}
     (λ c. search fits)
-    {- skip-value-skip-object-requires -}
+    {- skip_value-skip_object-requires -}
     (λ c κs. search fits)
-    {- skip-value-slice-aggregate-skip-word -}
-    (λ c. search laws)
-    {- skip-value-skip-word-requires -}
+    {- skip_value-skip_word-requires -}
     (λ c κs. search fits)
-    {- skip-value-slice-aggregate-skip-word-2 -}
-    (λ c. search laws)
-    {- skip-value-skip-word-requires-2 -}
+    {- skip_value-skip_word-requires-in-110 -}
     (λ c κs. search fits)
-    {- skip-value-slice-aggregate-skip-word-3 -}
-    (λ c. search laws)
-    {- skip-value-skip-word-requires-3 -}
+    {- skip_value-skip_word-requires-in-116 -}
     (λ c κs. search fits)
-    {- skip-value-skip-number-requires -}
+    {- skip_value-skip_number-requires -}
     (λ c κs. search fits)
-    {- skip-value-returns-3 -}
+    {- skip_value-returns-in-34 -}
     (λ c. search laws)
-    {- skip-value-returns-4 -}
+    {- skip_value-returns-else-left-eq0 -}
     (λ c. search laws)
-    {- skip-value-returns-5 -}
+    {- skip_value-returns-else-left-eq0-2 -}
     (λ c. search laws)
-    {- skip-value-returns-6 -}
+    {- skip_value-returns-in-102 -}
     (λ c. search laws)
-    {- skip-value-returns-7 -}
+    {- skip_value-returns-in-110 -}
     (λ c. search laws)
-    {- skip-value-returns-8 -}
+    {- skip_value-returns-in-116 -}
     (λ c. search laws)
-    {- skip-value-returns-9 -}
+    {- skip_value-returns-in_default -}
     (λ c. search laws)

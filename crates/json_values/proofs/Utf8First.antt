@@ -3,7 +3,7 @@ use mathlib.Core.Path.{◌≡◌, refl, sym, ap, ◌∙◌}
 use mathlib.Core.List.{[], ◌∷◌, ◌++◌}
 use mathlib.Core.Bool.{Bool, true, false}
 use mathlib.Core.Option.{Option, none, some}
-use Prim.Native.Nat.{ℕ, zero, suc, ◌+◌, ◌-◌, ◌≤◌, ◌<◌}
+use Prim.Native.Nat.{ℕ, zero, suc, ◌+◌, ◌≤◌, ◌<◌}
 use native.Mathlib.Omega.{arith}
 use borrow.Author.Tests.{le-leb, lt-leb, leb-true, leb-false, ne_eqb}
 use lib.ListN.{length, take, drop, length-drop}
@@ -12,11 +12,11 @@ use Rattle.ascii.specs.Ascii.{Bytes, if◌then◌else◌, between, among}
 use Rattle.json_text.specs.Reader.{Read, got, bad, Reader, more, behind, ◌>>=◌, ◌>>◌, give, fail, peek, satisfy, one_of, byte_range, ifNext◌then◌else◌, lead◌to◌then◌else◌, mapped, ◌giving◌, as_written, verbatim, counted}
 use Rattle.json_text.specs.Utf8.{then_tail, then_tails, multibyte_char, Due, due, wrong, lead_byte, next_byte, utf8_from, is_utf8}
 use Rattle.json_text.specs.Lexical.{ws, unescaped, read_char, read_chars, read_string}
-use Rattle.json.specs.Json.{Json, string, array, object, to_items, to_members, items, listed, read_member, read_array, read_object, value_of, read_value, read_text, value_read, read_json}
-use Rattle.json.specs.RawJson.{raw_unescaped, raw_char, raw_chars, raw_string, raw_member, raw_array, raw_object, raw_value_of, raw_value, raw_text, raw_json}
+use Rattle.json_values.specs.Json.{Json, string, array, object, to_items, to_members, items, listed, read_member, read_array, read_object, value_of, read_value, read_text, value_read, read_json}
+use Rattle.json_values.specs.RawJson.{raw_unescaped, raw_char, raw_chars, raw_string, raw_member, raw_array, raw_object, raw_value_of, raw_value, raw_text, raw_json}
 use Rattle.json_text.proofs.Steps.{inside, under, above, between_tells}
 use Rattle.json_text.proofs.Chars.{Ahead, ahead_char}
-use Rattle.json.proofs.Valid.{start, Goes, Whole, whole_ws, whole_byte, whole_char, whole_string, whole_value, same_start, whole_give, whole_next, leads_bind, whole_items, whole_member, readable_utf8}
+use Rattle.json_values.proofs.Valid.{start, Goes, Whole, whole_ws, whole_byte, whole_char, whole_string, whole_value, same_start, whole_give, whole_next, leads_bind, whole_items, whole_member, readable_utf8}
 
 -- ---- two readers read the same from UTF-8
 

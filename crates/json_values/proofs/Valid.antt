@@ -13,7 +13,7 @@ use Rattle.ascii.specs.Ascii.{Bytes, if◌then◌else◌, is_empty, between, amo
 use Rattle.json_text.specs.Reader.{Read, got, bad, Reader, more, behind, ◌>>=◌, ◌>>◌, give, fail, end_of_text, peek, satisfy, one_byte, one_of, byte_range, count_while, many, word, ifNext◌then◌else◌, lead◌to◌then◌else◌, either_read, ◌or◌, mapped, ◌giving◌, as_written, verbatim, counted}
 use Rattle.json_text.specs.Utf8.{then_tail, then_tails, multibyte_char, encode_utf8, Due, due, lead_byte, next_byte, utf8_from, is_utf8}
 use Rattle.json_text.specs.Lexical.{is_blank, ws, digits, int, frac, exp, read_number, unescaped, hex_value, hex_digit, hex4, low_after, code_point, escaped, read_char, read_chars, read_string}
-use Rattle.json.specs.Json.{Json, number, string, array, object, to_items, to_members, items, listed, read_member, read_array, read_object, value_of, read_value, read_text, value_read, read_json}
+use Rattle.json_values.specs.Json.{Json, number, string, array, object, to_items, to_members, items, listed, read_member, read_array, read_object, value_of, read_value, read_text, value_read, read_json}
 use Rattle.json_text.proofs.Steps.{inside, above}
 use Rattle.json_text.proofs.EscapeSteps.{hex_last}
 

@@ -1,8 +1,9 @@
 // JSON texts (RFC 8259, sections 2 to 5): values, skipped.
 #![tactic(auto)]
+
 ghost use Rattle.std.specs.Prelude.{◌≡◌, not};
 ghost use Rattle.ascii.specs.Ascii.{is_none, text};
-ghost use Rattle.json.specs.Json.{listed, read_member, read_value, read_json};
+ghost use Rattle.json_values.specs.Json.{listed, read_member, read_value, read_json};
 ghost use Rattle.json_text.specs.code.Places.{read_at, place_of};
 
 use json_text::{
