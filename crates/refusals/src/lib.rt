@@ -1,5 +1,6 @@
 // The refusals of document 01, in the order of its table.
 #![tactic(auto)]
+
 ghost use Rattle.std.specs.Prelude.{◌≡◌};
 ghost use Rattle.refusals.specs.Number.{refusal_number};
 
