@@ -3,7 +3,7 @@ use mathlib.Core.Path.{◌≡◌, refl, sym, ap, ◌∙◌}
 use mathlib.Core.Bool.{Bool, true, false, ◌&&◌, not, and-true}
 use mathlib.Core.List.{List, [], ◌∷◌, ◌++◌}
 use mathlib.Core.Option.{Option, none, some}
-use Prim.Native.Nat.{ℕ, suc, ◌+◌, ◌-◌}
+use Prim.Native.Nat.{ℕ, suc, ◌+◌}
 use native.Mathlib.Omega.{arith}
 use lib.Dec.{eqb}
 use borrow.Author.Tests.{eq-eqb, ne_eqb}
@@ -216,6 +216,8 @@ module _ {s : Bytes} {i b : ℕ} (g : Peeked s i b) where
                 spoilt : strings_slot vs ≡ Other → all is_string vs ≡ false → ⊥
                 spoilt o f = unfold strings_slot in (let c : (if all is_string vs then Other else Spoiled) ≡ Spoiled = rw f in let z : ◌≡◌ {A = ℕ} 0 1 = cc in omega arith)
             by (some xs) true e f are_strings = ids_held (ids_array vs ∙ e) (ids_at_lem s i r ∙ ids_array vs ∙ e)
+            by none true e f x = elim x [ ]
+            by (some xs) false e f x = elim x [ ]
 
     pub ids_are_not : x.first ≡ Spoiled → Relates (Came (IdsIs s)) (read_at (read_value 13) s i) (slot_read (Value j Spoiled))
     ids_are_not o =
@@ -227,6 +229,8 @@ module _ {s : Bytes} {i b : ℕ} (g : Peeked s i b) where
           where
             by : (p : Option (List Bytes)) (u : Bool) → strings (to_items vs) ≡ p → all is_string vs ≡ u → StringsOf p u → IdsIs s (array (to_items vs)) Spoiled
             by none false e f no_strings = no_ids (ids_array vs ∙ e)
+            by none true e f x = elim x [ ]
+            by (some xs) false e f x = elim x [ ]
             by (some xs) true e f are_strings = absurd (good o f)
               where
                 good : strings_slot vs ≡ Spoiled → all is_string vs ≡ true → ⊥

@@ -10,7 +10,7 @@ use lib.ListN.{length}
 use borrow.Author.Tests.{leb-false}
 use Rattle.ascii.specs.Ascii.{Bytes, if◌then◌else◌, same, text}
 use Rattle.ascii.proofs.Compare.{same_eq}
-use Rattle.json_text.specs.Reader.{Read, got, bad, Reader, ◌>>=◌, ◌>>◌, one_of, mapped}
+use Rattle.json_text.specs.Reader.{Read, got, bad, Reader, ◌>>=◌, one_of, mapped}
 use Rattle.json_text.specs.Lexical.{ws, read_string}
 use Rattle.json_text.specs.code.Places.{Peeked, read_at, place_of, fit, content_of, is_text}
 use Rattle.json_text.specs.declared.Next.{Next}

@@ -2,6 +2,7 @@
 // The body is nested at most 16 deep (document 01, "The list"): `read_value 16` is the body, and each object or array
 // that is open around a value leaves it one level less, down to 12 for a number of `version` and a string of `ids`.
 #![tactic(auto)]
+
 ghost use Rattle.std.specs.Prelude.{◌≡◌};
 ghost use Rattle.ascii.specs.Ascii.{text};
 ghost use Rattle.json_text.specs.code.Places.{read_at, place_of};
@@ -17,7 +18,7 @@ use refusals::Refusal;
 
 // What the pass holds of a value that must have a shape: it did not come; it came and is good, with a number or a
 // place; it came and is good, but not what is wanted; it came misshapen, or more than once.
-#[derive(Drop)]
+#[derive(Clone, Copy)]
 pub enum Slot {
     Absent,
     Held(usize),

@@ -3,41 +3,39 @@ use Rattle.trusted_list.proofs.Laws.{fits, members}
 use Rattle.trusted_list.proofs.body_member.Statement.{statement}
 use Rattle.trusted_list.proofs.body_member.Tie as tie
 
-pub body-member-spec : {M : Type 1} → statement M
-body-member-spec =
+pub body_member_spec : {M : Type 1} → statement M
+body_member_spec =
     tie.close
     (tie.spec
-    {- member-value-requires -}
+    {- member_value-requires -}
     (λ c κs. search fits)
-    {- enum-known-k -}
+    {- enum_known-k -}
     (λ c. search fits)
-    {- enum-told -}
+    {- enum_told-1 -}
     (λ c. search fits)
+    {- returns-in_default -}
+    (λ c. search members)
+    {- is_name-requires -}
+    (λ c κs. search fits)
+    {- read_list-requires -}
+    (λ c κs. search fits)
+    {- enum_known-j -}
+    (λ c. search fits)
+    {- enum_told-in_default-read_list -}
+    (λ c. search fits)
+    {- returns-in_default-read_list -}
+    (λ c. search members)
+    {- fill-first-requires -}
+    (λ c κs. search fits)
+    {- returns-then-is_name -}
+    (λ c. search members)
+    {- skip_value-requires -}
+    (λ c κs. search fits)
+    {- enum_known-j-in-At-skip_value -}
+    (λ c. search fits)
+    {- enum_told-in_default-skip_value -}
+    (λ c. search fits)
+    {- returns-in_default-skip_value -}
+    (λ c. search members)
     {- returns -}
-    (λ c. search members)
-    {- slice-aggregate-is-name -}
-    (λ c. search members)
-    {- is-name-requires -}
-    (λ c κs. search fits)
-    {- read-list-requires -}
-    (λ c κs. search fits)
-    {- enum-known-j -}
-    (λ c. search fits)
-    {- enum-told-2 -}
-    (λ c. search fits)
-    {- returns-2 -}
-    (λ c. search members)
-    {- fill-requires -}
-    (λ c κs. search fits)
-    {- returns-3 -}
-    (λ c. search members)
-    {- skip-value-requires -}
-    (λ c κs. search fits)
-    {- enum-known-j-2 -}
-    (λ c. search fits)
-    {- enum-told-3 -}
-    (λ c. search fits)
-    {- returns-4 -}
-    (λ c. search members)
-    {- returns-5 -}
     (λ c. search members))

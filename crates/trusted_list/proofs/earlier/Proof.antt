@@ -3,37 +3,37 @@ use Rattle.trusted_list.proofs.Laws.{fits, slots}
 use Rattle.trusted_list.proofs.earlier.Statement.{statement}
 use Rattle.trusted_list.proofs.earlier.Tie as tie
 
-pub earlier-spec : {M : Type 1} → statement M
-earlier-spec =
+pub earlier_spec : {M : Type 1} → statement M
+earlier_spec =
     tie.close
     (tie.spec
-    {- enum-told -}
+    {- enum_told-1 -}
     (λ c. search fits)
-    {- enum-known-x -}
+    {- enum_known-x -}
     (λ c. search fits)
-    {- enum-told-2 -}
+    {- enum_told-in-Held-y -}
     (λ c. search fits)
-    {- enum-told-3 -}
+    {- enum_told-in-Other-y -}
     (λ c. search fits)
-    {- enum-told-4 -}
+    {- enum_told-in-Absent-y -}
     (λ c. search fits)
-    {- enum-told-5 -}
+    {- enum_told-in-Spoiled-y -}
     (λ c. search fits)
-    {- enum-told-6 -}
+    {- enum_told-in-Absent -}
     (λ c. search fits)
-    {- enum-told-7 -}
+    {- enum_told-in-Spoiled -}
     (λ c. search fits)
-    {- returns -}
+    {- returns-in-Other -}
     (λ c. search slots)
-    {- returns-2 -}
+    {- returns-in-Held-y -}
     (λ c. search slots)
-    {- returns-3 -}
+    {- returns-in-Other-y -}
     (λ c. search slots)
-    {- returns-4 -}
+    {- returns-in-Absent-y -}
     (λ c. search slots)
-    {- returns-5 -}
+    {- returns-in-Spoiled-y -}
     (λ c. search slots)
-    {- returns-6 -}
+    {- returns-in-Absent -}
     (λ c. search slots)
-    {- returns-7 -}
+    {- returns-in-Spoiled -}
     (λ c. search slots))

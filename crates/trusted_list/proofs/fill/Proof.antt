@@ -6,4 +6,4 @@ use Rattle.trusted_list.proofs.fill.Tie as tie
 pub fill_spec : {M : Type 1} → statement M
 fill_spec =
     tie.close
-    (tie.spec {- enum-told -} (λ c. search fits) {- enum-told-2 -} (λ c. search fits) {- enum-told-3 -} (λ c. search fits) {- enum-told-4 -} (λ c. search fits) {- returns -} (λ c. search slots) {- returns-2 -} (λ c. search slots) {- returns-3 -} (λ c. search slots) {- returns-4 -} (λ c. search slots))
+    (tie.spec {- enum_told-1 -} (λ c. search fits) {- enum_told-in-Held -} (λ c. search fits) {- enum_told-in-Other -} (λ c. search fits) {- enum_told-in-Spoiled -} (λ c. search fits) {- returns-in-Absent -} (λ c. search slots) {- returns-in-Held -} (λ c. search slots) {- returns-in-Other -} (λ c. search slots) {- returns-in-Spoiled -} (λ c. search slots))

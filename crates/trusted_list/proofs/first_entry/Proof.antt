@@ -3,21 +3,21 @@ use Rattle.trusted_list.proofs.Laws.{entries, fits}
 use Rattle.trusted_list.proofs.first_entry.Statement.{statement}
 use Rattle.trusted_list.proofs.first_entry.Tie as tie
 
-pub first-entry-spec : {M : Type 1} → statement M
-first-entry-spec =
+pub first_entry_spec : {M : Type 1} → statement M
+first_entry_spec =
     tie.close
     (tie.spec
-    {- byte-at-requires -}
+    {- byte_at-requires -}
     (λ c κs. search fits)
-    {- returns -}
+    {- returns-then-byte_at-ne-BEGIN_ARRAY -}
     (λ c. search entries)
-    {- add-skip-blanks -}
+    {- overflow_add-ids -}
     (λ c. search fits)
-    {- skip-blanks-requires -}
+    {- skip_blanks-i-requires -}
     (λ c κs. search fits)
-    {- byte-at-requires-2 -}
+    {- byte_at-requires-2 -}
     (λ c κs. search fits)
-    {- returns-2 -}
+    {- returns-then-byte_at-eq-END_ARRAY -}
     (λ c. search entries)
-    {- returns-3 -}
+    {- returns -}
     (λ c. search entries))

@@ -3,19 +3,19 @@ use Rattle.trusted_list.proofs.Laws.{fits, levels}
 use Rattle.trusted_list.proofs.ids_item.Statement.{statement}
 use Rattle.trusted_list.proofs.ids_item.Tie as tie
 
-pub ids-item-spec : {M : Type 1} → statement M
-ids-item-spec =
+pub ids_item_spec : {M : Type 1} → statement M
+ids_item_spec =
     tie.close
     (tie.spec
-    {- skip-ascii-string-requires -}
+    {- skip_ascii_string-requires -}
     (λ c κs. search fits)
-    {- enum-known-j -}
+    {- enum_known-j -}
     (λ c. search fits)
-    {- enum-told -}
+    {- enum_told-1 -}
     (λ c. search fits)
-    {- ids-value-requires -}
+    {- ids_value-requires -}
     (λ c κs. search fits)
-    {- returns -}
+    {- returns-in_default -}
     (λ c. search levels)
-    {- returns-2 -}
+    {- returns -}
     (λ c. search levels))

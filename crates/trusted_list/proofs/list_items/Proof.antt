@@ -1,6 +1,5 @@
 -- `trusted_list::list_items` meets its contract.
 use Prim.Native.Nat.{◌-◌}
-use mathlib.Core.List.{[], ◌∷◌}
 use lib.ListN.{length}
 use Rattle.ascii.specs.Ascii.{text}
 use Rattle.json_text.specs.code.Places.{read_at}
@@ -11,51 +10,51 @@ use Rattle.trusted_list.proofs.Laws.{fits, walks}
 use Rattle.trusted_list.proofs.list_items.Statement.{statement}
 use Rattle.trusted_list.proofs.list_items.Tie as tie
 
-abbrev invariant-loop : tie.invariant-loop
-invariant-loop s from major minor first two₀ at₀ two at = Walk (read_value 14) 93 s (Listings s major minor) (read_at (listed (read_value 14) (text "]")) s from) two at
+abbrev invariant-loop-j : tie.invariant-loop-j
+invariant-loop-j s from major minor first two₀ at₀ two at = Walk (read_value 14) 93 s (Listings s major minor) (read_at (listed (read_value 14) (text "]")) s from) two at
 
-abbrev decreases-loop : tie.decreases-loop
-decreases-loop s from major minor first two₀ at₀ two at = length s - at
+abbrev decreases-loop-j : tie.decreases-loop-j
+decreases-loop-j s from major minor first two₀ at₀ two at = length s - at
 
-pub list-items-spec : {M : Type 1} → statement M
-list-items-spec =
+pub list_items_spec : {M : Type 1} → statement M
+list_items_spec =
     tie.close
     (tie.spec
-    invariant-loop
-    decreases-loop
-    {- skip-blanks-requires -}
+    invariant-loop-j
+    decreases-loop-j
+    {- skip_blanks-first-requires -}
     (λ c κs. search fits)
-    {- byte-at-requires -}
+    {- byte_at-requires -}
     (λ c κs. search fits)
-    {- add-t16 -}
+    {- overflow_add-result -}
     (λ c. search fits)
-    {- returns -}
+    {- returns-then-byte_at-eq-END_ARRAY -}
     (λ c. search walks)
-    {- loop-holds -}
+    {- loop-j-init -}
     (λ c. search walks)
-    {- list-item-requires -}
+    {- list_item-requires -}
     (λ c κs. search fits)
-    {- enum-known-j -}
+    {- enum_known-j -}
     (λ c. search fits)
-    {- enum-told -}
+    {- enum_told-1 -}
     (λ c. search fits)
-    {- returns-2 -}
+    {- returns-in_default -}
     (λ c. search walks)
-    {- skip-blanks-requires-2 -}
+    {- skip_blanks-k-requires -}
     (λ c κs. search fits)
-    {- byte-at-requires-2 -}
+    {- byte_at-b-requires -}
     (λ c κs. search fits)
-    {- add-t19 -}
+    {- overflow_add-result-then-b-eq-END_ARRAY -}
     (λ c. search fits)
-    {- returns-3 -}
+    {- returns-then-b-eq-END_ARRAY -}
     (λ c. search walks)
-    {- returns-4 -}
+    {- returns-then-b-ne-VALUE_SEPARATOR -}
     (λ c. search walks)
-    {- add-skip-blanks -}
+    {- overflow_add-k -}
     (λ c. search fits)
-    {- skip-blanks-requires-3 -}
+    {- skip_blanks-at-requires -}
     (λ c κs. search fits)
-    {- loop-less -}
+    {- loop-j-smaller -}
     (λ c. search walks)
-    {- loop-again -}
+    {- loop-j-preserved -}
     (λ c. search walks))

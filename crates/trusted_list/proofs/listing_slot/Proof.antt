@@ -3,37 +3,37 @@ use Rattle.trusted_list.proofs.Laws.{fits, slots}
 use Rattle.trusted_list.proofs.listing_slot.Statement.{statement}
 use Rattle.trusted_list.proofs.listing_slot.Tie as tie
 
-pub listing-slot-spec : {M : Type 1} → statement M
-listing-slot-spec =
+pub listing_slot_spec : {M : Type 1} → statement M
+listing_slot_spec =
     tie.close
     (tie.spec
-    {- enum-known-y -}
+    {- enum_known-y -}
     (λ c. search fits)
-    {- enum-told -}
+    {- enum_told-1 -}
     (λ c. search fits)
-    {- enum-told-2 -}
+    {- enum_told-in-Other-x -}
     (λ c. search fits)
-    {- enum-told-3 -}
+    {- enum_told-in-Absent-x -}
     (λ c. search fits)
-    {- enum-told-4 -}
+    {- enum_told-in-Spoiled-x -}
     (λ c. search fits)
-    {- enum-told-5 -}
+    {- enum_told-in-Absent -}
     (λ c. search fits)
-    {- enum-told-6 -}
+    {- enum_told-in-Other -}
     (λ c. search fits)
-    {- enum-told-7 -}
+    {- enum_told-in-Spoiled -}
     (λ c. search fits)
-    {- returns -}
+    {- returns-in-Held-x -}
     (λ c. search slots)
-    {- returns-2 -}
+    {- returns-in-Other-x -}
     (λ c. search slots)
-    {- returns-3 -}
+    {- returns-in-Absent-x -}
     (λ c. search slots)
-    {- returns-4 -}
+    {- returns-in-Spoiled-x -}
     (λ c. search slots)
-    {- returns-5 -}
+    {- returns-in-Absent -}
     (λ c. search slots)
-    {- returns-6 -}
+    {- returns-in-Other -}
     (λ c. search slots)
-    {- returns-7 -}
+    {- returns-in-Spoiled -}
     (λ c. search slots))

@@ -3,19 +3,19 @@ use Rattle.trusted_list.proofs.Laws.{entries, fits}
 use Rattle.trusted_list.proofs.next_entry.Statement.{statement}
 use Rattle.trusted_list.proofs.next_entry.Tie as tie
 
-pub next-entry-spec : {M : Type 1} → statement M
-next-entry-spec =
+pub next_entry_spec : {M : Type 1} → statement M
+next_entry_spec =
     tie.close
     (tie.spec
-    {- skip-blanks-requires -}
+    {- skip_blanks-k-requires -}
     (λ c κs. search fits)
-    {- byte-at-requires -}
+    {- byte_at-requires -}
+    (λ c κs. search fits)
+    {- returns-then-byte_at-ne-VALUE_SEPARATOR -}
+    (λ c. search entries)
+    {- overflow_add-k -}
+    (λ c. search fits)
+    {- skip_blanks-i-requires -}
     (λ c κs. search fits)
     {- returns -}
-    (λ c. search entries)
-    {- add-skip-blanks -}
-    (λ c. search fits)
-    {- skip-blanks-requires-2 -}
-    (λ c κs. search fits)
-    {- returns-2 -}
     (λ c. search entries))

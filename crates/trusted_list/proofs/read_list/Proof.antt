@@ -3,31 +3,31 @@ use Rattle.trusted_list.proofs.Laws.{fits, levels}
 use Rattle.trusted_list.proofs.read_list.Statement.{statement}
 use Rattle.trusted_list.proofs.read_list.Tie as tie
 
-pub read-list-spec : {M : Type 1} → statement M
-read-list-spec =
+pub read_list_spec : {M : Type 1} → statement M
+read_list_spec =
     tie.close
     (tie.spec
-    {- byte-at-requires -}
+    {- byte_at-requires -}
     (λ c κs. search fits)
-    {- add-list-items -}
+    {- overflow_add-from -}
     (λ c. search fits)
-    {- list-items-requires -}
+    {- list_items-requires -}
     (λ c κs. search fits)
-    {- enum-known-j -}
+    {- enum_known-j -}
     (λ c. search fits)
-    {- enum-told -}
+    {- enum_told-1 -}
     (λ c. search fits)
+    {- returns-in_default -}
+    (λ c. search levels)
+    {- returns-then-byte_at-eq-BEGIN_ARRAY -}
+    (λ c. search levels)
+    {- skip_value-requires -}
+    (λ c κs. search fits)
+    {- enum_known-j-in-At-1 -}
+    (λ c. search fits)
+    {- enum_told-in_default-skip_value -}
+    (λ c. search fits)
+    {- returns-in_default-skip_value -}
+    (λ c. search levels)
     {- returns -}
-    (λ c. search levels)
-    {- returns-2 -}
-    (λ c. search levels)
-    {- skip-value-requires -}
-    (λ c κs. search fits)
-    {- enum-known-j-2 -}
-    (λ c. search fits)
-    {- enum-told-2 -}
-    (λ c. search fits)
-    {- returns-3 -}
-    (λ c. search levels)
-    {- returns-4 -}
     (λ c. search levels))

@@ -3,33 +3,33 @@ use Rattle.trusted_list.proofs.Laws.{fits, levels}
 use Rattle.trusted_list.proofs.read_listing.Statement.{statement}
 use Rattle.trusted_list.proofs.read_listing.Tie as tie
 
-pub read-listing-spec : {M : Type 1} → statement M
-read-listing-spec =
+pub read_listing_spec : {M : Type 1} → statement M
+read_listing_spec =
     tie.close
     (tie.spec
-    {- byte-at-requires -}
+    {- byte_at-requires -}
     (λ c κs. search fits)
-    {- add-listing-members -}
+    {- overflow_add-from -}
     (λ c. search fits)
-    {- listing-members-requires -}
+    {- listing_members-requires -}
     (λ c κs. search fits)
-    {- enum-known-j -}
+    {- enum_known-j -}
     (λ c. search fits)
-    {- enum-told -}
+    {- enum_told-1 -}
     (λ c. search fits)
+    {- returns-in_default -}
+    (λ c. search levels)
+    {- listing_slot-x-requires -}
+    (λ c κs. search fits)
+    {- returns-then-byte_at-eq-BEGIN_OBJECT -}
+    (λ c. search levels)
+    {- skip_value-requires -}
+    (λ c κs. search fits)
+    {- enum_known-j-in-At-1 -}
+    (λ c. search fits)
+    {- enum_told-in_default-skip_value -}
+    (λ c. search fits)
+    {- returns-in_default-skip_value -}
+    (λ c. search levels)
     {- returns -}
-    (λ c. search levels)
-    {- listing-slot-requires -}
-    (λ c κs. search fits)
-    {- returns-2 -}
-    (λ c. search levels)
-    {- skip-value-requires -}
-    (λ c κs. search fits)
-    {- enum-known-j-2 -}
-    (λ c. search fits)
-    {- enum-told-2 -}
-    (λ c. search fits)
-    {- returns-3 -}
-    (λ c. search levels)
-    {- returns-4 -}
     (λ c. search levels))

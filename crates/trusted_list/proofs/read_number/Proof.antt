@@ -3,33 +3,33 @@ use Rattle.trusted_list.proofs.Laws.{fits, laws}
 use Rattle.trusted_list.proofs.read_number.Statement.{statement}
 use Rattle.trusted_list.proofs.read_number.Tie as tie
 
-pub read-number-spec : {M : Type 1} → statement M
-read-number-spec =
+pub read_number_spec : {M : Type 1} → statement M
+read_number_spec =
     tie.close
     (tie.spec
-    {- skip-value-requires -}
+    {- skip_value-requires -}
     (λ c κs. search fits)
-    {- enum-known-j -}
+    {- enum_known-j -}
     (λ c. search fits)
-    {- enum-told -}
+    {- enum_told-1 -}
+    (λ c. search fits)
+    {- returns-in_default -}
+    (λ c. search laws)
+    {- slice_bounds-read_number-count -}
+    (λ c. search laws)
+    {- slice_bounds-read_number-start -}
+    (λ c. search laws)
+    {- slice_bounds-read_number-end -}
+    (λ c. search laws)
+    {- read_number-n-requires -}
+    (λ c κs. search fits)
+    {- enum_known-n -}
+    (λ c. search fits)
+    {- enum_told-in_default-n -}
+    (λ c. search fits)
+    {- returns-in_default-n -}
+    (λ c. search laws)
+    {- overflow_cast-result -}
     (λ c. search fits)
     {- returns -}
-    (λ c. search laws)
-    {- sub-read-number -}
-    (λ c. search laws)
-    {- part-read-number-start -}
-    (λ c. search laws)
-    {- part-read-number-end -}
-    (λ c. search laws)
-    {- read-number-requires -}
-    (λ c κs. search fits)
-    {- enum-known-n -}
-    (λ c. search fits)
-    {- enum-told-2 -}
-    (λ c. search fits)
-    {- returns-2 -}
-    (λ c. search laws)
-    {- cast-t8 -}
-    (λ c. search fits)
-    {- returns-3 -}
     (λ c. search laws))

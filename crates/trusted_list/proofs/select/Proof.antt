@@ -3,39 +3,39 @@ use Rattle.trusted_list.proofs.Laws.{fits, selections}
 use Rattle.trusted_list.proofs.select.Statement.{statement}
 use Rattle.trusted_list.proofs.select.Tie as tie
 
-pub select-spec : {M : Type 1} → statement M
-select-spec =
+pub select_spec : {M : Type 1} → statement M
+select_spec =
     tie.close
     (tie.spec
-    {- returns -}
+    {- returns-then-body-gt65536 -}
     (λ c. search selections)
-    {- skip-blanks-requires -}
+    {- skip_blanks-i-requires -}
     (λ c κs. search fits)
-    {- read-body-requires -}
+    {- read_body-requires -}
     (λ c κs. search fits)
-    {- enum-known-j -}
+    {- enum_known-j -}
     (λ c. search fits)
-    {- enum-told -}
+    {- enum_told-1 -}
     (λ c. search fits)
-    {- returns-2 -}
+    {- returns-in_default -}
     (λ c. search selections)
-    {- skip-blanks-requires-2 -}
+    {- skip_blanks-k-requires -}
     (λ c κs. search fits)
-    {- returns-3 -}
+    {- returns-then-k-body -}
     (λ c. search selections)
-    {- enum-known-x -}
+    {- enum_known-x -}
     (λ c. search fits)
-    {- enum-told-2 -}
+    {- enum_told-in-Other -}
     (λ c. search fits)
-    {- enum-told-3 -}
+    {- enum_told-in-Absent -}
     (λ c. search fits)
-    {- enum-told-4 -}
+    {- enum_told-in-Spoiled -}
     (λ c. search fits)
-    {- returns-4 -}
+    {- returns-in-Held -}
     (λ c. search selections)
-    {- returns-5 -}
+    {- returns-in-Other -}
     (λ c. search selections)
-    {- returns-6 -}
+    {- returns-in-Absent -}
     (λ c. search selections)
-    {- returns-7 -}
+    {- returns-in-Spoiled -}
     (λ c. search selections))

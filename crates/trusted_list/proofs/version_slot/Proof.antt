@@ -3,41 +3,41 @@ use Rattle.trusted_list.proofs.Laws.{fits, slots}
 use Rattle.trusted_list.proofs.version_slot.Statement.{statement}
 use Rattle.trusted_list.proofs.version_slot.Tie as tie
 
-pub version-slot-spec : {M : Type 1} → statement M
-version-slot-spec =
+pub version_slot_spec : {M : Type 1} → statement M
+version_slot_spec =
     tie.close
     (tie.spec
-    {- enum-known-x -}
+    {- enum_known-x -}
     (λ c. search fits)
-    {- enum-known-y -}
+    {- enum_known-y -}
     (λ c. search fits)
-    {- returns -}
+    {- returns-then-m-major -}
     (λ c. search slots)
-    {- returns-2 -}
+    {- returns-then-n-minor -}
     (λ c. search slots)
-    {- enum-told -}
+    {- enum_told-1 -}
     (λ c. search fits)
-    {- enum-told-2 -}
+    {- enum_told-in-Other-y -}
     (λ c. search fits)
-    {- enum-told-3 -}
+    {- enum_told-in-Spoiled-y -}
     (λ c. search fits)
-    {- enum-told-4 -}
+    {- enum_told-in-Absent -}
     (λ c. search fits)
-    {- enum-told-5 -}
+    {- enum_told-in-Other -}
     (λ c. search fits)
-    {- enum-told-6 -}
+    {- enum_told-in-Spoiled -}
     (λ c. search fits)
-    {- returns-3 -}
+    {- returns-else-n-minor -}
     (λ c. search slots)
-    {- returns-4 -}
+    {- returns-in-Absent-y -}
     (λ c. search slots)
-    {- returns-5 -}
+    {- returns-in-Other-y -}
     (λ c. search slots)
-    {- returns-6 -}
+    {- returns-in-Spoiled-y -}
     (λ c. search slots)
-    {- returns-7 -}
+    {- returns-in-Absent -}
     (λ c. search slots)
-    {- returns-8 -}
+    {- returns-in-Other -}
     (λ c. search slots)
-    {- returns-9 -}
+    {- returns-in-Spoiled -}
     (λ c. search slots))

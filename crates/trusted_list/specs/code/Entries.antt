@@ -1,7 +1,7 @@
 -- Going through the selected entries one by one.
 use Rattle.std.specs.Prelude.{List, [], ◌∷◌, ◌≡◌, ℕ}
 use Rattle.ascii.specs.Ascii.{Bytes, text}
-use Rattle.json_text.specs.Reader.{got, Reader, ◌>>=◌, ◌>>◌, give, fail, one_of, ifNext◌then◌else◌}
+use Rattle.json_text.specs.Reader.{got, Reader, ◌>>◌, give, fail, one_of, ifNext◌then◌else◌}
 use Rattle.json_text.specs.Lexical.{ws, read_string}
 use Rattle.json_text.specs.code.Places.{read_at, place_of}
 use Rattle.json_text.specs.declared.Next.{Next}
