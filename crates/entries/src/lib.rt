@@ -1,5 +1,6 @@
 // An entry of the selected list: read at its place, held by value, and judged; and the AppID, read once.
 #![tactic(auto)]
+
 ghost use Rattle.entries.specs.code.Owner.{AppIdIs, OwnedBy, Differs, Judges};
 ghost use Rattle.entries.specs.code.Reading.{Decodes, Reads};
 

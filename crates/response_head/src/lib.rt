@@ -1,5 +1,6 @@
 // One response head (RFC 9112): a status line, field lines, the empty line last.
 #![tactic(auto)]
+
 ghost use Rattle.std.specs.Prelude.{◌≡◌, true, ◌+◌, ◌≤◌, length, drop};
 ghost use Rattle.ascii.specs.Ascii.{all, take_while, among};
 ghost use Rattle.ascii.specs.code.Numbers.{number_of};
@@ -24,7 +25,7 @@ enum FieldLine {
 }
 
 // The first line of a name: none yet, or one with the value that is asked for, or with another one.
-#[derive(Drop)]
+#[derive(Clone, Copy)]
 enum First {
     Unseen,
     Right,
@@ -32,7 +33,7 @@ enum First {
 }
 
 // The value of the Location lines: between two places, where there is one line.
-#[derive(Drop)]
+#[derive(Clone, Copy)]
 enum Place {
     Nowhere,
     Between(usize, usize),
@@ -56,7 +57,7 @@ enum Fields {
 // ---- bytes
 
 // The bytes that a scan passes: those of one class, or all but one.
-#[derive(Drop)]
+#[derive(Clone, Copy)]
 enum Run {
     Blank,
     Text,

@@ -3,31 +3,31 @@ use Rattle.entries.proofs.Laws.{reading}
 use Rattle.entries.proofs.decode_entry.Statement.{statement}
 use Rattle.entries.proofs.decode_entry.Tie as tie
 
-pub decode-entry-spec : {M : Type 1} → statement M
-decode-entry-spec =
+pub decode_entry_spec : {M : Type 1} → statement M
+decode_entry_spec =
     tie.close
     (tie.spec
-    {- plain-end-requires -}
+    {- plain_end-requires -}
     (λ c κs. search reading)
-    {- enum-known-q -}
+    {- enum_known-q -}
     (λ c. search reading)
-    {- enum-told -}
+    {- enum_told-1 -}
     (λ c. search reading)
-    {- decode-string-requires -}
+    {- decode_string-requires -}
     (λ c κs. search reading)
+    {- returns-in_default -}
+    (λ c. search reading)
+    {- overflow_add-from -}
+    (λ c. search reading)
+    {- slice_bounds-entry-count -}
+    (λ c. search reading)
+    {- slice_bounds-entry-start -}
+    (λ c. search reading)
+    {- slice_bounds-entry-end -}
+    (λ c. search reading)
+    {- write_bytes-requires -}
+    (λ c κs. search reading)
+    {- overflow_add-result -}
+    (λ c. search reading)
     {- returns -}
-    (λ c. search reading)
-    {- add-from -}
-    (λ c. search reading)
-    {- sub-entry -}
-    (λ c. search reading)
-    {- part-entry-start -}
-    (λ c. search reading)
-    {- part-entry-end -}
-    (λ c. search reading)
-    {- write-bytes-requires -}
-    (λ c κs. search reading)
-    {- add-t14 -}
-    (λ c. search reading)
-    {- returns-2 -}
     (λ c. search reading))

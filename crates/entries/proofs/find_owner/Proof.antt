@@ -3,21 +3,21 @@ use Rattle.entries.proofs.Laws.{owners}
 use Rattle.entries.proofs.find_owner.Statement.{statement}
 use Rattle.entries.proofs.find_owner.Tie as tie
 
-pub find-owner-spec : {M : Type 1} → statement M
-find-owner-spec =
+pub find_owner_spec : {M : Type 1} → statement M
+find_owner_spec =
     tie.close
     (tie.spec
-    {- part-requires -}
+    {- part-host-requires -}
     (λ c κs. search owners)
-    {- find-owner-requires -}
+    {- find_owner-requires -}
     (λ c κs. search owners)
-    {- enum-told -}
+    {- enum_told-1 -}
     (λ c. search owners)
-    {- enum-known-at -}
+    {- enum_known-at -}
     (λ c. search owners)
-    {- add-start -}
+    {- overflow_add-start -}
     (λ c. search owners)
-    {- returns -}
+    {- returns-in-BadTable -}
     (λ c. search owners)
-    {- returns-2 -}
+    {- returns-in-Label -}
     (λ c. search owners))

@@ -3,27 +3,27 @@ use Rattle.entries.proofs.Laws.{read_last, read_long, read_stuck, reading}
 use Rattle.entries.proofs.read_entry.Statement.{statement}
 use Rattle.entries.proofs.read_entry.Tie as tie
 
-pub read-entry-spec : {M : Type 1} → statement M
-read-entry-spec =
+pub read_entry_spec : {M : Type 1} → statement M
+read_entry_spec =
     tie.close
     (tie.spec
-    {- decode-entry-requires -}
+    {- decode_entry-requires -}
     (λ c κs. search reading)
-    {- enum-known-n -}
+    {- enum_known-n -}
     (λ c. search reading)
-    {- enum-told -}
+    {- enum_told-1 -}
     (λ c. search reading)
-    {- returns -}
+    {- returns-in_default -}
     (λ c. search read_stuck)
-    {- next-entry-requires -}
+    {- next_entry-next-requires -}
     (λ c κs. search reading)
-    {- returns-2 -}
+    {- returns-then-n-gt512 -}
     (λ c. search read_long)
-    {- part-requires -}
+    {- part-label-requires -}
     (λ c κs. search reading)
-    {- prefix-requires -}
+    {- prefix-entry-requires -}
     (λ c κs. search reading)
-    {- judge-requires -}
+    {- judge-verdict-requires -}
     (λ c κs. search reading)
-    {- returns-3 -}
+    {- returns -}
     (λ c. search read_last))

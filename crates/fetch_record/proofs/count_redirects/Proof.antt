@@ -6,59 +6,59 @@ use Rattle.fetch_record.proofs.Laws.{more_laws, record_laws}
 use Rattle.fetch_record.proofs.count_redirects.Statement.{statement}
 use Rattle.fetch_record.proofs.count_redirects.Tie as tie
 
-abbrev invariant-loop : tie.invariant-loop
-invariant-loop items text n₀ n = Counting items text n
+abbrev invariant-loop-n : tie.invariant-loop-n
+invariant-loop-n items text n₀ n = Counting items text n
 
-abbrev decreases-loop : tie.decreases-loop
-decreases-loop items text n₀ n = length items - 8 * n
+abbrev decreases-loop-n : tie.decreases-loop-n
+decreases-loop-n items text n₀ n = length items - 8 * n
 
-pub count-redirects-spec : {M : Type 1} → statement M
-count-redirects-spec =
+pub count_redirects_spec : {M : Type 1} → statement M
+count_redirects_spec =
     tie.close
     (tie.spec
-    invariant-loop
-    decreases-loop
-    {- loop-holds -}
+    invariant-loop-n
+    decreases-loop-n
+    {- loop-n-init -}
     (λ c. search record_laws)
-    {- mul-at -}
+    {- overflow_mul-at -}
     (λ c. search record_laws)
-    {- returns -}
+    {- returns-then-items-at -}
     (λ c. search record_laws)
-    {- shared-slice-read-if2 -}
+    {- bounds-items-at -}
     (λ c. search record_laws)
-    {- returns-2 -}
+    {- returns-then-items-at-ne1 -}
     (λ c. search record_laws)
-    {- sub-if3 -}
+    {- overflow_sub-items -}
     (λ c. search record_laws)
-    {- returns-3 -}
+    {- returns-then-items-at-lt8 -}
     (λ c. search record_laws)
-    {- add-from -}
+    {- overflow_add-from -}
     (λ c. search record_laws)
-    {- add-to -}
+    {- overflow_add-to -}
     (λ c. search record_laws)
-    {- sub-read-redirect -}
+    {- slice_bounds-read_redirect-count -}
     (λ c. search record_laws)
-    {- part-read-redirect-start -}
+    {- slice_bounds-read_redirect-start -}
     (λ c. search record_laws)
-    {- part-read-redirect-end -}
+    {- slice_bounds-read_redirect-end -}
     (λ c. search record_laws)
-    {- read-redirect-requires -}
+    {- read_redirect-requires -}
     (λ c κs. search record_laws)
-    {- enum-known-h -}
+    {- enum_known-h -}
     (λ c. search record_laws)
-    {- enum-told -}
+    {- enum_told-1 -}
     (λ c. search record_laws)
-    {- returns-4 -}
+    {- returns-in_default -}
     (λ c. search record_laws)
-    {- location-end-requires -}
+    {- location_end-requires -}
     (λ c κs. search record_laws)
-    {- returns-5 -}
+    {- returns-then-text-location_end -}
     (λ c. search record_laws)
-    {- add-n -}
+    {- overflow_add-n -}
     (λ c. search record_laws)
-    {- loop-less -}
+    {- loop-n-smaller -}
     (λ c. search record_laws)
-    {- loop-again -}
+    {- loop-n-preserved -}
     (λ c. search more_laws)
-    {- returns-6 -}
+    {- returns -}
     (λ c. search record_laws))

@@ -3,29 +3,29 @@ use Rattle.fetch_record.proofs.Laws.{laws}
 use Rattle.fetch_record.proofs.fetching.Statement.{statement}
 use Rattle.fetch_record.proofs.fetching.Tie as tie
 
-pub fetching-spec : {M : Type 1} → statement M
-fetching-spec =
+pub fetching_spec : {M : Type 1} → statement M
+fetching_spec =
     tie.close
     (tie.spec
     {- lay-requires -}
     (λ c κs. search laws)
-    {- enum-known-n -}
+    {- enum_known-n -}
     (λ c. search laws)
-    {- hops-of-requires -}
+    {- hops_of-requires -}
     (λ c κs. search laws)
-    {- after-hops-requires -}
+    {- after_hops-requires -}
     (λ c κs. search laws)
-    {- enum-known-n-2 -}
+    {- enum_known-n-in-Answered-1 -}
     (λ c. search laws)
-    {- hops-of-requires-2 -}
+    {- hops_of-requires-in-Answered -}
     (λ c κs. search laws)
-    {- after-hops-requires-2 -}
+    {- after_hops-requires-in-Answered -}
     (λ c κs. search laws)
-    {- enum-told -}
+    {- enum_told-1 -}
     (λ c. search laws)
-    {- returns -}
+    {- returns-in-Unanswered -}
     (λ c. search laws)
-    {- returns-2 -}
+    {- returns-in-Answered -}
     (λ c. search laws)
-    {- returns-3 -}
+    {- returns-in-Malformed -}
     (λ c. search laws))

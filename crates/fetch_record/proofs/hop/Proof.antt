@@ -3,29 +3,29 @@ use Rattle.fetch_record.proofs.Laws.{laws}
 use Rattle.fetch_record.proofs.hop.Statement.{statement}
 use Rattle.fetch_record.proofs.hop.Tie as tie
 
-pub hop-spec : {M : Type 1} → statement M
-hop-spec =
+pub hop_spec : {M : Type 1} → statement M
+hop_spec =
     tie.close
     (tie.spec
-    {- cast-start -}
+    {- overflow_cast-start -}
     (λ c. search laws)
-    {- location-end-requires -}
+    {- location_end-end-requires -}
     (λ c κs. search laws)
-    {- sub-https-url -}
+    {- slice_bounds-https_url-count -}
     (λ c. search laws)
-    {- part-https-url-start -}
+    {- slice_bounds-https_url-start -}
     (λ c. search laws)
-    {- part-https-url-end -}
+    {- slice_bounds-https_url-end -}
     (λ c. search laws)
-    {- https-url-requires -}
+    {- https_url-requires -}
     (λ c κs. search laws)
-    {- enum-told -}
+    {- enum_told-1 -}
     (λ c. search laws)
-    {- enum-told-2 -}
+    {- enum_told-in-Malformed -}
     (λ c. search laws)
-    {- returns -}
+    {- returns-in-Found -}
     (λ c. search laws)
-    {- returns-2 -}
+    {- returns-in-Malformed -}
     (λ c. search laws)
-    {- returns-3 -}
+    {- returns-else-h -}
     (λ c. search laws))

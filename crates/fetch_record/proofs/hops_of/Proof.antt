@@ -5,35 +5,35 @@ use Rattle.fetch_record.proofs.Laws.{laws}
 use Rattle.fetch_record.proofs.hops_of.Statement.{statement}
 use Rattle.fetch_record.proofs.hops_of.Tie as tie
 
-abbrev invariant-loop : tie.invariant-loop
-invariant-loop items text n k₀ k = Hopping items text n k
+abbrev invariant-loop-k : tie.invariant-loop-k
+invariant-loop-k items text n k₀ k = Hopping items text n k
 
-abbrev decreases-loop : tie.decreases-loop
-decreases-loop items text n k₀ k = n - k
+abbrev decreases-loop-k : tie.decreases-loop-k
+decreases-loop-k items text n k₀ k = n - k
 
-pub hops-of-spec : {M : Type 1} → statement M
-hops-of-spec =
+pub hops_of_spec : {M : Type 1} → statement M
+hops_of_spec =
     tie.close
     (tie.spec
-    invariant-loop
-    decreases-loop
-    {- loop-holds -}
+    invariant-loop-k
+    decreases-loop-k
+    {- loop-k-init -}
     (λ c. search laws)
-    {- redirect-at-requires -}
+    {- redirect_at-h-requires -}
     (λ c κs. search laws)
     {- hop-requires -}
     (λ c κs. search laws)
-    {- enum-known-r -}
+    {- enum_known-r -}
+    (λ c. search laws)
+    {- returns-in-Refused -}
+    (λ c. search laws)
+    {- enum_told-1 -}
+    (λ c. search laws)
+    {- overflow_add-k -}
+    (λ c. search laws)
+    {- loop-k-smaller -}
+    (λ c. search laws)
+    {- loop-k-preserved -}
     (λ c. search laws)
     {- returns -}
-    (λ c. search laws)
-    {- enum-told -}
-    (λ c. search laws)
-    {- add-k -}
-    (λ c. search laws)
-    {- loop-less -}
-    (λ c. search laws)
-    {- loop-again -}
-    (λ c. search laws)
-    {- returns-2 -}
     (λ c. search laws))

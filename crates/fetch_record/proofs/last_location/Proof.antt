@@ -3,25 +3,25 @@ use Rattle.fetch_record.proofs.Laws.{laws}
 use Rattle.fetch_record.proofs.last_location.Statement.{statement}
 use Rattle.fetch_record.proofs.last_location.Tie as tie
 
-pub last-location-spec : {M : Type 1} → statement M
-last-location-spec =
+pub last_location_spec : {M : Type 1} → statement M
+last_location_spec =
     tie.close
     (tie.spec
     {- lay-requires -}
     (λ c κs. search laws)
-    {- enum-known-n -}
+    {- enum_known-n -}
     (λ c. search laws)
-    {- last-of-requires -}
+    {- last_of-requires -}
     (λ c κs. search laws)
-    {- enum-known-n-2 -}
+    {- enum_known-n-in-Answered-1 -}
     (λ c. search laws)
-    {- last-of-requires-2 -}
+    {- last_of-requires-in-Answered -}
     (λ c κs. search laws)
-    {- enum-told -}
+    {- enum_told-1 -}
     (λ c. search laws)
-    {- returns -}
+    {- returns-in-Unanswered -}
     (λ c. search laws)
-    {- returns-2 -}
+    {- returns-in-Answered -}
     (λ c. search laws)
-    {- returns-3 -}
+    {- returns-in-Malformed -}
     (λ c. search laws))

@@ -3,7 +3,7 @@ use Rattle.fetch_record.proofs.Laws.{laws}
 use Rattle.fetch_record.proofs.last_of.Statement.{statement}
 use Rattle.fetch_record.proofs.last_of.Tie as tie
 
-pub last-of-spec : {M : Type 1} → statement M
-last-of-spec =
+pub last_of_spec : {M : Type 1} → statement M
+last_of_spec =
     tie.close
-    (tie.spec {- returns -} (λ c. search laws) {- sub-redirect-at -} (λ c. search laws) {- redirect-at-requires -} (λ c κs. search laws) {- cast-t6 -} (λ c. search laws) {- location-end-requires -} (λ c κs. search laws) {- returns-2 -} (λ c. search laws))
+    (tie.spec {- returns-then-n-eq0 -} (λ c. search laws) {- overflow_sub-n -} (λ c. search laws) {- redirect_at-h-requires -} (λ c κs. search laws) {- overflow_cast-result -} (λ c. search laws) {- location_end-requires -} (λ c κs. search laws) {- returns -} (λ c. search laws))

@@ -3,37 +3,37 @@ use Rattle.fetch_record.proofs.Laws.{record_laws}
 use Rattle.fetch_record.proofs.lay.Statement.{statement}
 use Rattle.fetch_record.proofs.lay.Tie as tie
 
-pub lay-spec : {M : Type 1} → statement M
-lay-spec =
+pub lay_spec : {M : Type 1} → statement M
+lay_spec =
     tie.close
     (tie.spec
-    {- count-redirects-requires -}
+    {- count_redirects-requires -}
     (λ c κs. search record_laws)
-    {- enum-known-n -}
+    {- enum_known-n -}
     (λ c. search record_laws)
-    {- enum-told -}
+    {- enum_told-1 -}
     (λ c. search record_laws)
-    {- returns -}
+    {- returns-in_default -}
     (λ c. search record_laws)
-    {- mul-at -}
+    {- overflow_mul-at -}
     (λ c. search record_laws)
-    {- sub-read-end -}
+    {- slice_bounds-read_end-count -}
     (λ c. search record_laws)
-    {- part-read-end-start -}
+    {- slice_bounds-read_end-start -}
     (λ c. search record_laws)
-    {- part-read-end-end -}
+    {- slice_bounds-read_end-end -}
     (λ c. search record_laws)
-    {- read-end-requires -}
+    {- read_end-requires -}
     (λ c κs. search record_laws)
-    {- enum-told-2 -}
+    {- enum_told-in-Unanswered -}
     (λ c. search record_laws)
-    {- enum-known-a -}
+    {- enum_known-a -}
     (λ c. search record_laws)
-    {- enum-told-3 -}
+    {- enum_told-in-Malformed -}
     (λ c. search record_laws)
-    {- returns-2 -}
+    {- returns-in-Unanswered -}
     (λ c. search record_laws)
-    {- returns-3 -}
+    {- returns-in-Answered -}
     (λ c. search record_laws)
-    {- returns-4 -}
+    {- returns-in-Malformed -}
     (λ c. search record_laws))

@@ -3,31 +3,31 @@ use Rattle.fetch_record.proofs.Laws.{record_laws}
 use Rattle.fetch_record.proofs.read_end.Statement.{statement}
 use Rattle.fetch_record.proofs.read_end.Tie as tie
 
-pub read-end-spec : {M : Type 1} → statement M
-read-end-spec =
+pub read_end_spec : {M : Type 1} → statement M
+read_end_spec =
     tie.close
     (tie.spec
-    {- returns -}
+    {- returns-then-s-eq0 -}
     (λ c. search record_laws)
-    {- returns-2 -}
+    {- returns-then-s-ne4 -}
     (λ c. search record_laws)
-    {- shared-slice-read-if3 -}
+    {- bounds-s-0 -}
     (λ c. search record_laws)
-    {- returns-3 -}
+    {- returns-then-s-ne2 -}
     (λ c. search record_laws)
-    {- sub-read-answer -}
+    {- slice_bounds-read_answer-count -}
     (λ c. search record_laws)
-    {- part-read-answer-start -}
+    {- slice_bounds-read_answer-start -}
     (λ c. search record_laws)
-    {- part-read-answer-end -}
+    {- slice_bounds-read_answer-end -}
     (λ c. search record_laws)
-    {- read-answer-requires -}
+    {- read_answer-requires -}
     (λ c κs. search record_laws)
-    {- enum-known-a -}
+    {- enum_known-a -}
     (λ c. search record_laws)
-    {- enum-told -}
+    {- enum_told-1 -}
     (λ c. search record_laws)
-    {- returns-4 -}
+    {- returns-in-Answer -}
     (λ c. search record_laws)
-    {- returns-5 -}
+    {- returns-in-Malformed -}
     (λ c. search record_laws))

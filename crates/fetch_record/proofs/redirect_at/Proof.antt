@@ -3,25 +3,25 @@ use Rattle.fetch_record.proofs.Laws.{laws}
 use Rattle.fetch_record.proofs.redirect_at.Statement.{statement}
 use Rattle.fetch_record.proofs.redirect_at.Tie as tie
 
-pub redirect-at-spec : {M : Type 1} → statement M
-redirect-at-spec =
+pub redirect_at_spec : {M : Type 1} → statement M
+redirect_at_spec =
     tie.close
     (tie.spec
-    {- mul-from -}
+    {- overflow_mul-from -}
     (λ c. search laws)
-    {- add-from -}
+    {- overflow_add-from -}
     (λ c. search laws)
-    {- mul-to -}
+    {- overflow_mul-to -}
     (λ c. search laws)
-    {- add-to -}
+    {- overflow_add-to -}
     (λ c. search laws)
-    {- sub-redirect-in -}
+    {- slice_bounds-redirect_in-count -}
     (λ c. search laws)
-    {- part-redirect-in-start -}
+    {- slice_bounds-redirect_in-start -}
     (λ c. search laws)
-    {- part-redirect-in-end -}
+    {- slice_bounds-redirect_in-end -}
     (λ c. search laws)
-    {- redirect-in-requires -}
+    {- redirect_in-requires -}
     (λ c κs. search laws)
     {- returns -}
     (λ c. search laws))

@@ -7,33 +7,33 @@ use Rattle.response_head.proofs.ByteLaws.{byte_laws}
 use Rattle.response_head.proofs.fits_form.Statement.{statement}
 use Rattle.response_head.proofs.fits_form.Tie as tie
 
-abbrev invariant-loop : tie.invariant-loop
-invariant-loop form s i₀ i = Begins fits_byte form s (fits_form form s) i
+abbrev invariant-loop-i : tie.invariant-loop-i
+invariant-loop-i form s i₀ i = Begins fits_byte form s (fits_form form s) i
 
-abbrev decreases-loop : tie.decreases-loop
-decreases-loop form s i₀ i = length form - i
+abbrev decreases-loop-i : tie.decreases-loop-i
+decreases-loop-i form s i₀ i = length form - i
 
-pub fits-form-spec : {M : Type 1} → statement M
-fits-form-spec =
+pub fits_form_spec : {M : Type 1} → statement M
+fits_form_spec =
     tie.close
     (tie.spec
-    invariant-loop
-    decreases-loop
-    {- loop-holds -}
+    invariant-loop-i
+    decreases-loop-i
+    {- loop-i-init -}
     (λ c. search byte_laws)
-    {- shared-slice-read-fits-byte -}
+    {- bounds-form-i -}
     (λ c. search byte_laws)
-    {- shared-slice-read-fits-byte-2 -}
+    {- bounds-s-i -}
     (λ c. search byte_laws)
-    {- fits-byte-requires -}
+    {- fits_byte-requires -}
     (λ c κs. search byte_laws)
-    {- add-i -}
+    {- overflow_add-i -}
     (λ c. search byte_laws)
-    {- loop-less -}
+    {- loop-i-smaller -}
     (λ c. search byte_laws)
-    {- loop-again -}
+    {- loop-i-preserved -}
+    (λ c. search byte_laws)
+    {- returns-else-fits_byte -}
     (λ c. search byte_laws)
     {- returns -}
-    (λ c. search byte_laws)
-    {- returns-2 -}
     (λ c. search byte_laws))

@@ -7,29 +7,29 @@ use Rattle.response_head.proofs.ByteLaws.{byte_laws}
 use Rattle.response_head.proofs.is_among.Statement.{statement}
 use Rattle.response_head.proofs.is_among.Tie as tie
 
-abbrev invariant-loop : tie.invariant-loop
-invariant-loop marks b i₀ i = among (drop i marks) b ≡ among marks b
+abbrev invariant-loop-i : tie.invariant-loop-i
+invariant-loop-i marks b i₀ i = among (drop i marks) b ≡ among marks b
 
-abbrev decreases-loop : tie.decreases-loop
-decreases-loop marks b i₀ i = length marks - i
+abbrev decreases-loop-i : tie.decreases-loop-i
+decreases-loop-i marks b i₀ i = length marks - i
 
-pub is-among-spec : {M : Type 1} → statement M
-is-among-spec =
+pub is_among_spec : {M : Type 1} → statement M
+is_among_spec =
     tie.close
     (tie.spec
-    invariant-loop
-    decreases-loop
-    {- loop-holds -}
+    invariant-loop-i
+    decreases-loop-i
+    {- loop-i-init -}
     (λ c. search byte_laws)
-    {- shared-slice-read-if1 -}
+    {- bounds-marks-i -}
+    (λ c. search byte_laws)
+    {- returns-then-b-marks -}
+    (λ c. search byte_laws)
+    {- overflow_add-i -}
+    (λ c. search byte_laws)
+    {- loop-i-smaller -}
+    (λ c. search byte_laws)
+    {- loop-i-preserved -}
     (λ c. search byte_laws)
     {- returns -}
-    (λ c. search byte_laws)
-    {- add-i -}
-    (λ c. search byte_laws)
-    {- loop-less -}
-    (λ c. search byte_laws)
-    {- loop-again -}
-    (λ c. search byte_laws)
-    {- returns-2 -}
     (λ c. search byte_laws))

@@ -3,29 +3,29 @@ use Rattle.response_head.proofs.ByteLaws.{byte_laws}
 use Rattle.response_head.proofs.is_in.Statement.{statement}
 use Rattle.response_head.proofs.is_in.Tie as tie
 
-pub is-in-spec : {M : Type 1} → statement M
-is-in-spec =
+pub is_in_spec : {M : Type 1} → statement M
+is_in_spec =
     tie.close
     (tie.spec
-    {- enum-told -}
+    {- enum_told-1 -}
     (λ c. search byte_laws)
-    {- is-blank-requires -}
+    {- is_blank-requires -}
     (λ c κs. search byte_laws)
-    {- enum-told-2 -}
+    {- enum_told-in-Text -}
     (λ c. search byte_laws)
-    {- is-text-byte-requires -}
+    {- is_text_byte-requires -}
     (λ c κs. search byte_laws)
-    {- enum-told-3 -}
+    {- enum_told-in-Tchar -}
     (λ c. search byte_laws)
-    {- is-tchar-requires -}
+    {- is_tchar-requires -}
     (λ c κs. search byte_laws)
-    {- enum-known-run -}
+    {- enum_known-run -}
     (λ c. search byte_laws)
-    {- returns -}
+    {- returns-in-Blank -}
     (λ c. search byte_laws)
-    {- returns-2 -}
+    {- returns-in-Text -}
     (λ c. search byte_laws)
-    {- returns-3 -}
+    {- returns-in-Tchar -}
     (λ c. search byte_laws)
-    {- returns-4 -}
+    {- returns-in-Other -}
     (λ c. search byte_laws))

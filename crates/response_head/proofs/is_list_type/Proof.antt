@@ -3,29 +3,27 @@ use Rattle.response_head.proofs.FieldLaws.{field_laws}
 use Rattle.response_head.proofs.is_list_type.Statement.{statement}
 use Rattle.response_head.proofs.is_list_type.Tie as tie
 
-pub is-list-type-spec : {M : Type 1} → statement M
-is-list-type-spec =
+pub is_list_type_spec : {M : Type 1} → statement M
+is_list_type_spec =
     tie.close
     (tie.spec
-    {- run-end-requires -}
+    {- run_end-end-requires -}
     (λ c κs. search field_laws)
-    {- sub-trim-end -}
+    {- slice_bounds-trim_end-count -}
     (λ c. search field_laws)
-    {- part-trim-end-start -}
+    {- slice_bounds-trim_end-start -}
     (λ c. search field_laws)
-    {- part-trim-end-end -}
+    {- slice_bounds-trim_end-end -}
     (λ c. search field_laws)
-    {- trim-end-requires -}
+    {- trim_end-to-requires -}
     (λ c κs. search field_laws)
-    {- sub-equal-no-case -}
+    {- slice_bounds-equal_no_case-count -}
     (λ c. search field_laws)
-    {- part-equal-no-case-start -}
+    {- slice_bounds-equal_no_case-start -}
     (λ c. search field_laws)
-    {- part-equal-no-case-end -}
+    {- slice_bounds-equal_no_case-end -}
     (λ c. search field_laws)
-    {- slice-aggregate-equal-no-case -}
-    (λ c. search field_laws)
-    {- equal-no-case-requires -}
+    {- equal_no_case-requires -}
     (λ c κs. search field_laws)
     {- returns -}
     (λ c. search field_laws))

@@ -3,17 +3,15 @@ use Rattle.response_head.proofs.ByteLaws.{byte_laws}
 use Rattle.response_head.proofs.is_tchar.Statement.{statement}
 use Rattle.response_head.proofs.is_tchar.Tie as tie
 
-pub is-tchar-spec : {M : Type 1} → statement M
-is-tchar-spec =
+pub is_tchar_spec : {M : Type 1} → statement M
+is_tchar_spec =
     tie.close
     (tie.spec
-    {- is-alphanumeric-requires -}
+    {- is_alphanumeric-requires -}
+    (λ c κs. search byte_laws)
+    {- returns-then-is_alphanumeric -}
+    (λ c. search byte_laws)
+    {- is_among-requires -}
     (λ c κs. search byte_laws)
     {- returns -}
-    (λ c. search byte_laws)
-    {- slice-aggregate-is-among -}
-    (λ c. search byte_laws)
-    {- is-among-requires -}
-    (λ c κs. search byte_laws)
-    {- returns-2 -}
     (λ c. search byte_laws))

@@ -7,53 +7,51 @@ use Rattle.response_head.proofs.HeadLaws.{gather_laws}
 use Rattle.response_head.proofs.read_fields.Statement.{statement}
 use Rattle.response_head.proofs.read_fields.Tie as tie
 
-abbrev invariant-loop : tie.invariant-loop
-invariant-loop s from at₀ x₀ t7 at x = Gathering s (read_fields (lines_of (drop from s))) x at
+abbrev invariant-loop-at : tie.invariant-loop-at
+invariant-loop-at s from at₀ x₀ at x = Gathering s (read_fields (lines_of (drop from s))) x at
 
-abbrev decreases-loop : tie.decreases-loop
-decreases-loop s from at₀ x₀ t7 at x = length s - at
+abbrev decreases-loop-at : tie.decreases-loop-at
+decreases-loop-at s from at₀ x₀ at x = length s - at
 
-pub read-fields-spec : {M : Type 1} → statement M
-read-fields-spec =
+pub read_fields_spec : {M : Type 1} → statement M
+read_fields_spec =
     tie.close
     (tie.spec
-    invariant-loop
-    decreases-loop
-    {- loop-holds -}
+    invariant-loop-at
+    decreases-loop-at
+    {- loop-at-init -}
     (λ c. search gather_laws)
-    {- run-end-requires -}
+    {- run_end-end-requires -}
     (λ c κs. search gather_laws)
-    {- sub-begins-with -}
+    {- slice_bounds-begins_with-count -}
     (λ c. search gather_laws)
-    {- part-begins-with-start -}
+    {- slice_bounds-begins_with-start -}
     (λ c. search gather_laws)
-    {- part-begins-with-end -}
+    {- slice_bounds-begins_with-end -}
     (λ c. search gather_laws)
-    {- slice-aggregate-begins-with -}
-    (λ c. search gather_laws)
-    {- begins-with-requires -}
+    {- begins_with-requires -}
     (λ c κs. search gather_laws)
-    {- sub-if3 -}
+    {- overflow_sub-s -}
+    (λ c. search gather_laws)
+    {- returns-then-s-end-eq2 -}
+    (λ c. search gather_laws)
+    {- returns-then-end-at -}
+    (λ c. search gather_laws)
+    {- field_seen-requires -}
+    (λ c κs. search gather_laws)
+    {- enum_known-y -}
+    (λ c. search gather_laws)
+    {- overflow_add-at -}
+    (λ c. search gather_laws)
+    {- loop-at-smaller -}
+    (λ c. search gather_laws)
+    {- loop-at-preserved -}
+    (λ c. search gather_laws)
+    {- enum_told-1 -}
+    (λ c. search gather_laws)
+    {- returns-in-Malformed -}
+    (λ c. search gather_laws)
+    {- returns-else-begins_with -}
     (λ c. search gather_laws)
     {- returns -}
-    (λ c. search gather_laws)
-    {- returns-2 -}
-    (λ c. search gather_laws)
-    {- field-seen-requires -}
-    (λ c κs. search gather_laws)
-    {- enum-known-y -}
-    (λ c. search gather_laws)
-    {- add-at -}
-    (λ c. search gather_laws)
-    {- loop-less -}
-    (λ c. search gather_laws)
-    {- loop-again -}
-    (λ c. search gather_laws)
-    {- enum-told -}
-    (λ c. search gather_laws)
-    {- returns-3 -}
-    (λ c. search gather_laws)
-    {- returns-4 -}
-    (λ c. search gather_laws)
-    {- returns-5 -}
     (λ c. search gather_laws))

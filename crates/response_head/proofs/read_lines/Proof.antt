@@ -3,49 +3,47 @@ use Rattle.response_head.proofs.HeadLaws.{head_laws}
 use Rattle.response_head.proofs.read_lines.Statement.{statement}
 use Rattle.response_head.proofs.read_lines.Tie as tie
 
-pub read-lines-spec : {M : Type 1} → statement M
-read-lines-spec =
+pub read_lines_spec : {M : Type 1} → statement M
+read_lines_spec =
     tie.close
     (tie.spec
-    {- run-end-requires -}
+    {- run_end-end-requires -}
     (λ c κs. search head_laws)
-    {- sub-begins-with -}
+    {- slice_bounds-begins_with-count -}
     (λ c. search head_laws)
-    {- part-begins-with-start -}
+    {- slice_bounds-begins_with-start -}
     (λ c. search head_laws)
-    {- part-begins-with-end -}
+    {- slice_bounds-begins_with-end -}
     (λ c. search head_laws)
-    {- slice-aggregate-begins-with -}
-    (λ c. search head_laws)
-    {- begins-with-requires -}
+    {- begins_with-requires -}
     (λ c κs. search head_laws)
-    {- sub-read-status -}
+    {- slice_bounds-read_status-count -}
     (λ c. search head_laws)
-    {- part-read-status-start -}
+    {- slice_bounds-read_status-start -}
     (λ c. search head_laws)
-    {- part-read-status-end -}
+    {- slice_bounds-read_status-end -}
     (λ c. search head_laws)
-    {- read-status-requires -}
+    {- read_status-requires -}
     (λ c κs. search head_laws)
-    {- enum-known-status -}
+    {- enum_known-status -}
     (λ c. search head_laws)
-    {- enum-told -}
+    {- enum_told-1 -}
     (λ c. search head_laws)
-    {- returns -}
+    {- returns-in_default -}
     (λ c. search head_laws)
-    {- add-read-fields -}
+    {- overflow_add-end -}
     (λ c. search head_laws)
-    {- read-fields-requires -}
+    {- read_fields-requires -}
     (λ c κs. search head_laws)
-    {- enum-known-x -}
+    {- enum_known-x -}
     (λ c. search head_laws)
-    {- enum-told-2 -}
+    {- enum_told-in_default-read_fields -}
     (λ c. search head_laws)
-    {- returns-2 -}
+    {- returns-in_default-read_fields -}
     (λ c. search head_laws)
-    {- reading-of-requires -}
+    {- reading_of-requires -}
     (λ c κs. search head_laws)
-    {- returns-3 -}
+    {- returns-in-Read -}
     (λ c. search head_laws)
-    {- returns-4 -}
+    {- returns-else-begins_with -}
     (λ c. search head_laws))

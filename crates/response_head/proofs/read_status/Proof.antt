@@ -3,25 +3,23 @@ use Rattle.response_head.proofs.FieldLaws.{field_laws}
 use Rattle.response_head.proofs.read_status.Statement.{statement}
 use Rattle.response_head.proofs.read_status.Tie as tie
 
-pub read-status-spec : {M : Type 1} → statement M
-read-status-spec =
+pub read_status_spec : {M : Type 1} → statement M
+read_status_spec =
     tie.close
     (tie.spec
-    {- returns -}
+    {- returns-then-line-lt13 -}
     (λ c. search field_laws)
-    {- slice-aggregate-fits-form -}
-    (λ c. search field_laws)
-    {- fits-form-requires -}
+    {- fits_form-requires -}
     (λ c κs. search field_laws)
-    {- sub-read-number -}
+    {- slice_bounds-read_number-count -}
     (λ c. search field_laws)
-    {- part-read-number-start -}
+    {- slice_bounds-read_number-start -}
     (λ c. search field_laws)
-    {- part-read-number-end -}
+    {- slice_bounds-read_number-end -}
     (λ c. search field_laws)
-    {- read-number-requires -}
+    {- read_number-requires -}
     (λ c κs. search field_laws)
-    {- returns-2 -}
+    {- returns-then-fits_form -}
     (λ c. search field_laws)
-    {- returns-3 -}
+    {- returns-else-fits_form -}
     (λ c. search field_laws))

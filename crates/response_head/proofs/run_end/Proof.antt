@@ -8,31 +8,31 @@ use Rattle.response_head.proofs.ByteLaws.{byte_laws}
 use Rattle.response_head.proofs.run_end.Statement.{statement}
 use Rattle.response_head.proofs.run_end.Tie as tie
 
-abbrev invariant-loop : tie.invariant-loop
-invariant-loop run s from i₀ i = i + length (take_while (in_run run) (drop i s)) ≡ from + length (take_while (in_run run) (drop from s))
+abbrev invariant-loop-i : tie.invariant-loop-i
+invariant-loop-i run s from i₀ i = i + length (take_while (in_run run) (drop i s)) ≡ from + length (take_while (in_run run) (drop from s))
 
-abbrev decreases-loop : tie.decreases-loop
-decreases-loop run s from i₀ i = length s - i
+abbrev decreases-loop-i : tie.decreases-loop-i
+decreases-loop-i run s from i₀ i = length s - i
 
-pub run-end-spec : {M : Type 1} → statement M
-run-end-spec =
+pub run_end_spec : {M : Type 1} → statement M
+run_end_spec =
     tie.close
     (tie.spec
-    invariant-loop
-    decreases-loop
-    {- loop-holds -}
+    invariant-loop-i
+    decreases-loop-i
+    {- loop-i-init -}
     (λ c. search byte_laws)
-    {- shared-slice-read-is-in -}
+    {- bounds-s-i -}
     (λ c. search byte_laws)
-    {- is-in-requires -}
+    {- is_in-requires -}
     (λ c κs. search byte_laws)
-    {- add-i -}
+    {- overflow_add-i -}
     (λ c. search byte_laws)
-    {- loop-less -}
+    {- loop-i-smaller -}
     (λ c. search byte_laws)
-    {- loop-again -}
+    {- loop-i-preserved -}
+    (λ c. search byte_laws)
+    {- returns-else-is_in -}
     (λ c. search byte_laws)
     {- returns -}
-    (λ c. search byte_laws)
-    {- returns-2 -}
     (λ c. search byte_laws))

@@ -4,31 +4,31 @@ use Rattle.response_head.proofs.ByteLaws.{byte_laws}
 use Rattle.response_head.proofs.trim_end.Statement.{statement}
 use Rattle.response_head.proofs.trim_end.Tie as tie
 
-abbrev invariant-loop : tie.invariant-loop
-invariant-loop s from end₀ end = Trimming s from end
+abbrev invariant-loop-end : tie.invariant-loop-end
+invariant-loop-end s from end₀ end = Trimming s from end
 
-abbrev decreases-loop : tie.decreases-loop
-decreases-loop s from end₀ end = end
+abbrev decreases-loop-end : tie.decreases-loop-end
+decreases-loop-end s from end₀ end = end
 
-pub trim-end-spec : {M : Type 1} → statement M
-trim-end-spec =
+pub trim_end_spec : {M : Type 1} → statement M
+trim_end_spec =
     tie.close
     (tie.spec
-    invariant-loop
-    decreases-loop
-    {- loop-holds -}
+    invariant-loop-end
+    decreases-loop-end
+    {- loop-end-init -}
     (λ c. search byte_laws)
-    {- sub-last -}
+    {- overflow_sub-last -}
     (λ c. search byte_laws)
-    {- shared-slice-read-is-blank -}
+    {- bounds-s-last -}
     (λ c. search byte_laws)
-    {- is-blank-requires -}
+    {- is_blank-requires -}
     (λ c κs. search byte_laws)
-    {- loop-less -}
+    {- loop-end-smaller -}
     (λ c. search byte_laws)
-    {- loop-again -}
+    {- loop-end-preserved -}
+    (λ c. search byte_laws)
+    {- returns-else-is_blank -}
     (λ c. search byte_laws)
     {- returns -}
-    (λ c. search byte_laws)
-    {- returns-2 -}
     (λ c. search byte_laws))

@@ -3,21 +3,21 @@ use Rattle.fetch_record.proofs.Laws.{item_laws}
 use Rattle.fetch_record.proofs.item.read_answer.Statement.{statement}
 use Rattle.fetch_record.proofs.item.read_answer.Tie as tie
 
-pub read-answer-spec : {M : Type 1} → statement M
-read-answer-spec =
+pub read_answer_spec : {M : Type 1} → statement M
+read_answer_spec =
     tie.close
     (tie.spec
-    {- returns -}
+    {- returns-then-s-lt3 -}
     (λ c. search item_laws)
-    {- shared-slice-read-big-endian -}
+    {- bounds-s-0 -}
     (λ c. search item_laws)
-    {- shared-slice-read-big-endian-2 -}
+    {- bounds-s-1 -}
     (λ c. search item_laws)
-    {- big-endian-requires -}
+    {- big_endian-status-requires -}
     (λ c κs. search item_laws)
-    {- shared-slice-read-seen -}
+    {- bounds-s-2 -}
     (λ c. search item_laws)
-    {- returns-2 -}
+    {- returns-then-seen-gt1 -}
     (λ c. search item_laws)
-    {- returns-3 -}
+    {- returns -}
     (λ c. search item_laws))

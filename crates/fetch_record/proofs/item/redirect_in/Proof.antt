@@ -3,29 +3,29 @@ use Rattle.fetch_record.proofs.Laws.{item_laws}
 use Rattle.fetch_record.proofs.item.redirect_in.Statement.{statement}
 use Rattle.fetch_record.proofs.item.redirect_in.Tie as tie
 
-pub redirect-in-spec : {M : Type 1} → statement M
-redirect-in-spec =
+pub redirect_in_spec : {M : Type 1} → statement M
+redirect_in_spec =
     tie.close
     (tie.spec
-    {- shared-slice-read-big-endian -}
+    {- bounds-s-3 -}
     (λ c. search item_laws)
-    {- shared-slice-read-big-endian-2 -}
+    {- bounds-s-4 -}
     (λ c. search item_laws)
-    {- big-endian-requires -}
+    {- big_endian-start-requires -}
     (λ c κs. search item_laws)
-    {- shared-slice-read-big-endian-3 -}
+    {- bounds-s-5 -}
     (λ c. search item_laws)
-    {- shared-slice-read-big-endian-4 -}
+    {- bounds-s-6 -}
     (λ c. search item_laws)
-    {- big-endian-requires-2 -}
+    {- big_endian-size-requires -}
     (λ c κs. search item_laws)
-    {- shared-slice-read-big-endian-5 -}
+    {- bounds-s-0 -}
     (λ c. search item_laws)
-    {- shared-slice-read-big-endian-6 -}
+    {- bounds-s-1 -}
     (λ c. search item_laws)
-    {- big-endian-requires-3 -}
+    {- big_endian-requires -}
     (λ c κs. search item_laws)
-    {- shared-slice-read-t14 -}
+    {- bounds-s-2 -}
     (λ c. search item_laws)
     {- returns -}
     (λ c. search item_laws))
