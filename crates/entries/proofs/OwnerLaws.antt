@@ -70,7 +70,7 @@ module _ (a : Bytes) where
       appid_no_url n = is_bad (go (is_none_lem R n))
         where
           go : none ≡ https_url a → is_bad_app_id a ≡ true
-          go e = unfold is_bad_app_id in (rw (sym g ∙ h, ← e) (or-true (ltb 2048 (length a))))
+          go e = unfold is_bad_app_id in (rw (sym g ∙ h, ← e) (or_true (ltb 2048 (length a))))
 
       pub appid_url : {p : Parts} → q ≡ Found p → AppIdIs a (Url p.end)
       appid_url {p} f = go (found R f)
