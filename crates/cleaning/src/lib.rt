@@ -1,5 +1,6 @@
 // Cleaning: what is refused, the length of the list, its bytes.
 #![tactic(auto)]
+
 ghost use Rattle.std.specs.Prelude.{◌≡◌, ◌+◌, ◌≤◌, length, true, leb};
 ghost use Rattle.entries.specs.code.Owner.{Owned};
 ghost use Rattle.entries.specs.code.Reading.{IdsThere, entries_at};

@@ -1,5 +1,6 @@
 // The decision and the fetch location.
 #![tactic(auto)]
+
 ghost use Rattle.std.specs.Prelude.{◌≡◌};
 ghost use Rattle.entries.specs.Causes.{kept};
 ghost use Rattle.entries.specs.code.Owner.{HostEnds, Owned};

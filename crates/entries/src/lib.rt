@@ -20,7 +20,7 @@ pub enum AppId {
 
 // Where the AppID's private label begins and ends in it, empty where it has none; and what is held of the rules that go deeper than
 // it.
-#[derive(Drop)]
+#[derive(Clone, Copy)]
 pub struct Owner {
     pub start: usize,
     pub end: usize,

@@ -35,7 +35,7 @@ pub enum Lookup {
 
 // Whether rules go deeper than the private label of a host. Where some do: the most labels of an exception that matches the host,
 // and of any rule that does; and where a span of lines begins and ends that has them all.
-#[derive(Drop)]
+#[derive(Clone, Copy)]
 pub struct Deeper {
     pub present: bool,
     pub exception: usize,

@@ -3,47 +3,47 @@ use Rattle.decision.proofs.Laws.{stages}
 use Rattle.decision.proofs.before_list.Statement.{statement}
 use Rattle.decision.proofs.before_list.Tie as tie
 
-pub before-list-spec : {M : Type 1} → statement M
-before-list-spec =
+pub before_list_spec : {M : Type 1} → statement M
+before_list_spec =
     tie.close
     (tie.spec
-    {- is-facet-requires -}
+    {- is_facet-requires -}
     (λ c κs. search stages)
-    {- read-appid-requires -}
+    {- read_appid-requires -}
     (λ c κs. search stages)
-    {- enum-told -}
+    {- enum_told-1 -}
     (λ c. search stages)
-    {- returns -}
+    {- returns-in-Bad -}
     (λ c. search stages)
-    {- enum-told-2 -}
+    {- enum_told-in-Foreign -}
     (λ c. search stages)
-    {- returns-2 -}
+    {- returns-then-appid-eq0 -}
     (λ c. search stages)
     {- equal-requires -}
     (λ c κs. search stages)
-    {- returns-3 -}
+    {- returns-then-equal -}
     (λ c. search stages)
-    {- returns-4 -}
+    {- returns-in-Foreign -}
     (λ c. search stages)
-    {- enum-known-end -}
+    {- enum_known-end -}
     (λ c. search stages)
-    {- same-host-requires -}
+    {- same_host-requires -}
     (λ c κs. search stages)
-    {- returns-5 -}
+    {- returns-then-same_host -}
     (λ c. search stages)
     {- fetching-requires -}
     (λ c κs. search stages)
-    {- enum-known-x -}
+    {- enum_known-x -}
     (λ c. search stages)
-    {- enum-told-3 -}
+    {- enum_told-in-Fetch -}
     (λ c. search stages)
-    {- enum-known-a -}
+    {- enum_known-a -}
     (λ c. search stages)
-    {- returns-6 -}
+    {- returns-in-Refused -}
     (λ c. search stages)
-    {- returns-7 -}
+    {- returns-in-Fetch -}
     (λ c. search stages)
-    {- returns-8 -}
+    {- returns-in-Answered -}
     (λ c. search stages)
-    {- returns-9 -}
+    {- returns -}
     (λ c. search stages))

@@ -3,25 +3,25 @@ use Rattle.decision.proofs.Laws.{laws}
 use Rattle.decision.proofs.by_ids.Statement.{statement}
 use Rattle.decision.proofs.by_ids.Tie as tie
 
-pub by-ids-spec : {M : Type 1} → statement M
-by-ids-spec =
+pub by_ids_spec : {M : Type 1} → statement M
+by_ids_spec =
     tie.close
     (tie.spec
-    {- find-owner-requires -}
+    {- find_owner-requires -}
     (λ c κs. search laws)
-    {- enum-told -}
+    {- enum_told-1 -}
     (λ c. search laws)
-    {- enum-known-owner -}
+    {- enum_known-owner -}
     (λ c. search laws)
-    {- first-match-requires -}
+    {- first_match-requires -}
     (λ c κs. search laws)
-    {- enum-known-n -}
+    {- enum_known-n -}
     (λ c. search laws)
-    {- enum-told-2 -}
+    {- enum_told-in-Nowhere -}
     (λ c. search laws)
-    {- returns -}
+    {- returns-in-BadTable -}
     (λ c. search laws)
-    {- returns-2 -}
+    {- returns-in-At -}
     (λ c. search laws)
-    {- returns-3 -}
+    {- returns-in-Nowhere -}
     (λ c. search laws))

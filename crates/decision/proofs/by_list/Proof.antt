@@ -3,23 +3,23 @@ use Rattle.decision.proofs.Laws.{laws}
 use Rattle.decision.proofs.by_list.Statement.{statement}
 use Rattle.decision.proofs.by_list.Tie as tie
 
-pub by-list-spec : {M : Type 1} → statement M
-by-list-spec =
+pub by_list_spec : {M : Type 1} → statement M
+by_list_spec =
     tie.close
     (tie.spec
-    {- returns -}
+    {- returns-then-response-ne200 -}
     (λ c. search laws)
     {- select-requires -}
     (λ c κs. search laws)
-    {- enum-known-x -}
+    {- enum_known-x -}
     (λ c. search laws)
-    {- enum-known-ids -}
+    {- enum_known-ids -}
     (λ c. search laws)
-    {- by-ids-requires -}
+    {- by_ids-requires -}
     (λ c κs. search laws)
-    {- returns-2 -}
+    {- returns-in-Refused -}
     (λ c. search laws)
-    {- returns-3 -}
+    {- returns-in-Ids -}
     (λ c. search laws)
-    {- returns-4 -}
+    {- returns -}
     (λ c. search laws))

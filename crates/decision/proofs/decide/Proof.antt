@@ -3,19 +3,19 @@ use Rattle.decision.proofs.Laws.{laws}
 use Rattle.decision.proofs.decide.Statement.{statement}
 use Rattle.decision.proofs.decide.Tie as tie
 
-pub decide-spec : {M : Type 1} → statement M
-decide-spec =
+pub decide_spec : {M : Type 1} → statement M
+decide_spec =
     tie.close
     (tie.spec
-    {- before-list-requires -}
+    {- before_list-requires -}
     (λ c κs. search laws)
-    {- enum-known-a -}
+    {- enum_known-a -}
     (λ c. search laws)
-    {- enum-known-response -}
+    {- enum_known-response -}
     (λ c. search laws)
-    {- by-list-requires -}
+    {- by_list-requires -}
     (λ c κs. search laws)
-    {- returns -}
+    {- returns-in-Settled -}
     (λ c. search laws)
-    {- returns-2 -}
+    {- returns-in-ListDue -}
     (λ c. search laws))

@@ -3,33 +3,33 @@ use Rattle.decision.proofs.Laws.{laws}
 use Rattle.decision.proofs.fetch_location.Statement.{statement}
 use Rattle.decision.proofs.fetch_location.Tie as tie
 
-pub fetch-location-spec : {M : Type 1} → statement M
-fetch-location-spec =
+pub fetch_location_spec : {M : Type 1} → statement M
+fetch_location_spec =
     tie.close
     (tie.spec
     {- locate-requires -}
     (λ c κs. search laws)
-    {- enum-told -}
+    {- enum_told-1 -}
     (λ c. search laws)
-    {- sub-result -}
+    {- slice_bounds-result-count -}
     (λ c. search laws)
-    {- part-result-start -}
+    {- slice_bounds-result-start -}
     (λ c. search laws)
-    {- part-result-end -}
+    {- slice_bounds-result-end -}
     (λ c. search laws)
-    {- enum-told-2 -}
+    {- enum_told-in-AppId -}
     (λ c. search laws)
-    {- enum-known-a -}
+    {- enum_known-a -}
     (λ c. search laws)
-    {- sub-result-2 -}
+    {- slice_bounds-result-count-in-Text -}
     (λ c. search laws)
-    {- part-result-start-2 -}
+    {- slice_bounds-result-start-in-Text -}
     (λ c. search laws)
-    {- part-result-end-2 -}
+    {- slice_bounds-result-end-in-Text -}
     (λ c. search laws)
-    {- returns -}
+    {- returns-in-Nothing -}
     (λ c. search laws)
-    {- returns-2 -}
+    {- returns-in-AppId -}
     (λ c. search laws)
-    {- returns-3 -}
+    {- returns-in-Text -}
     (λ c. search laws))

@@ -7,47 +7,47 @@ use Rattle.decision.proofs.Laws.{seeking}
 use Rattle.decision.proofs.first_match.Statement.{statement}
 use Rattle.decision.proofs.first_match.Tie as tie
 
-abbrev invariant-loop : tie.invariant-loop
-invariant-loop caller appid owner body ids table d₀ at₀ n₀ d at n = Seeks caller appid owner table body (first_match caller (kept appid table (entries_at body ids))) d.bytes at n
+abbrev invariant-loop-at : tie.invariant-loop-at
+invariant-loop-at caller appid owner body ids table d₀ at₀ n₀ d at n = Seeks caller appid owner table body (first_match caller (kept appid table (entries_at body ids))) d.bytes at n
 
-abbrev decreases-loop : tie.decreases-loop
-decreases-loop caller appid owner body ids table d₀ at₀ n₀ d at n = left body at
+abbrev decreases-loop-at : tie.decreases-loop-at
+decreases-loop-at caller appid owner body ids table d₀ at₀ n₀ d at n = left body at
 
-pub first-match-spec : {M : Type 1} → statement M
-first-match-spec =
+pub first_match_spec : {M : Type 1} → statement M
+first_match_spec =
     tie.close
     (tie.spec
-    invariant-loop
-    decreases-loop
-    {- first-entry-requires -}
+    invariant-loop-at
+    decreases-loop-at
+    {- first_entry-at-requires -}
     (λ c κs. search seeking)
-    {- loop-holds -}
+    {- loop-at-init -}
     (λ c. search seeking)
-    {- enum-known-at -}
+    {- enum_known-at -}
     (λ c. search seeking)
-    {- enum-told -}
+    {- enum_told-1 -}
     (λ c. search seeking)
-    {- returns -}
+    {- returns-in_default -}
     (λ c. search seeking)
-    {- read-entry-requires -}
+    {- read_entry-e-requires -}
     (λ c κs. search seeking)
-    {- enum-told-2 -}
+    {- enum_told-in-Kept -}
     (λ c. search seeking)
     {- prefix-requires -}
     (λ c κs. search seeking)
     {- matches-requires -}
     (λ c κs. search seeking)
-    {- returns-2 -}
+    {- returns-then-matches -}
     (λ c. search seeking)
-    {- add-n -}
+    {- overflow_add-n -}
     (λ c. search seeking)
-    {- loop-less -}
+    {- loop-at-smaller-in-Kept -}
     (λ c. search seeking)
-    {- loop-again -}
+    {- loop-at-preserved-in-Kept -}
     (λ c. search seeking)
-    {- enum-told-3 -}
+    {- enum_told-in-Discarded -}
     (λ c. search seeking)
-    {- loop-less-2 -}
+    {- loop-at-smaller -}
     (λ c. search seeking)
-    {- loop-again-2 -}
+    {- loop-at-preserved -}
     (λ c. search seeking))

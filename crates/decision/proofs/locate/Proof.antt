@@ -3,41 +3,41 @@ use Rattle.decision.proofs.Laws.{laws}
 use Rattle.decision.proofs.locate.Statement.{statement}
 use Rattle.decision.proofs.locate.Tie as tie
 
-pub locate-spec : {M : Type 1} → statement M
-locate-spec =
+pub locate_spec : {M : Type 1} → statement M
+locate_spec =
     tie.close
     (tie.spec
-    {- before-list-requires -}
+    {- before_list-requires -}
     (λ c κs. search laws)
-    {- enum-told -}
+    {- enum_told-1 -}
     (λ c. search laws)
-    {- enum-known-a -}
+    {- enum_known-a -}
     (λ c. search laws)
-    {- enum-told-2 -}
+    {- enum_told-in-Fetch -}
     (λ c. search laws)
-    {- last-target-requires -}
+    {- last_target-requires -}
     (λ c κs. search laws)
-    {- enum-told-3 -}
+    {- enum_told-in-Rule1 -}
     (λ c. search laws)
-    {- enum-told-4 -}
+    {- enum_told-in-Rule2 -}
     (λ c. search laws)
-    {- enum-told-5 -}
+    {- enum_told-in-Rule3 -}
     (λ c. search laws)
-    {- enum-told-6 -}
+    {- enum_told-in-Rule4 -}
     (λ c. search laws)
-    {- enum-told-7 -}
+    {- enum_told-in-Refused -}
     (λ c. search laws)
-    {- returns -}
+    {- returns-in-ListDue -}
     (λ c. search laws)
-    {- returns-2 -}
+    {- returns-in-Fetch -}
     (λ c. search laws)
-    {- returns-3 -}
+    {- returns-in-Rule1 -}
     (λ c. search laws)
-    {- returns-4 -}
+    {- returns-in-Rule2 -}
     (λ c. search laws)
-    {- returns-5 -}
+    {- returns-in-Rule3 -}
     (λ c. search laws)
-    {- returns-6 -}
+    {- returns-in-Rule4 -}
     (λ c. search laws)
-    {- returns-7 -}
+    {- returns-in-Refused -}
     (λ c. search laws))
