@@ -11,7 +11,7 @@ use Rattle.origin.specs.Origin.{begins_https, is_port, read_port, is_host_byte, 
 use Rattle.json_text.specs.Reader.{more, behind, ◌>>=◌, give, fail, end_of_text, peek, satisfy, one_byte, count_while, many, word, ifNext◌then◌else◌, lead◌to◌then◌else◌, either_read, ◌or◌, mapped, ◌giving◌, as_written, verbatim, counted}
 use Rattle.json_text.specs.Utf8.{multibyte_char, encode_utf8}
 use Rattle.json_text.specs.Lexical.{is_blank, digits, int, frac, exp, read_number, unescaped, hex_value, hex_digit, hex4, low_after, code_point, escaped, read_char, read_chars, read_string}
-use Rattle.json.specs.Json.{to_items, to_members, items, listed, read_member, read_array, read_object, value_of, read_value, read_text, value_read, read_json}
+use Rattle.json_values.specs.Json.{to_items, to_members, items, listed, read_member, read_array, read_object, value_of, read_value, read_text, value_read, read_json}
 use Rattle.trusted_list.specs.TrustedList.{values_of, once, read_number16, read_version, strings, read_ids, read_listing, listings, read_listings, read_list, is_wanted, select, read_body, selected, list_refusal, entries}
 use Rattle.entries.specs.AppId.{is_bad_app_id, app_label}
 use Rattle.entries.specs.Causes.{labels_agree, is_other_label, cause, kept}

@@ -14,8 +14,8 @@ use Rattle.ascii.proofs.DecimalLaws.{decimal_numeral}
 use Rattle.normal_forms.specs.code.Normals.{is_plain_byte}
 use Rattle.json_text.specs.Reader.{Reader, peek, count_while}
 use Rattle.json_text.specs.Lexical.{is_blank}
-use Rattle.json.specs.Json.{Json, number, string, array, object, to_items, to_members, items, read_member, read_object, read_value, read_json}
-use Rattle.json.proofs.Rereads.{Reads, is_plain, plain_byte, AllPlain, NumberText, NumberEnd, string_is, array_is, object_is, number_is, member_reads, last_item, more_items, listed_none, listed_some, array_reads, object_reads, text_reads}
+use Rattle.json_values.specs.Json.{Json, number, string, array, object, to_items, to_members, items, read_member, read_object, read_value, read_json}
+use Rattle.json_values.proofs.Rereads.{Reads, is_plain, plain_byte, AllPlain, NumberText, NumberEnd, string_is, array_is, object_is, number_is, member_reads, last_item, more_items, listed_none, listed_some, array_reads, object_reads, text_reads}
 use Rattle.cleaning.specs.Clean.{quoted, render}
 
 -- ---- plain bytes and numbers

@@ -11,7 +11,7 @@ use Rattle.ascii.specs.Ascii.{Bytes, all, same, decimal}
 use Rattle.ascii.proofs.DecimalLaws.{number_decimal}
 use Rattle.origin.specs.Origin.{normal_form}
 use Rattle.normal_forms.specs.code.Normals.{is_plain_byte}
-use Rattle.json.specs.Json.{number, string, to_items, to_members}
+use Rattle.json_values.specs.Json.{number, string, to_items, to_members}
 use Rattle.trusted_list.specs.TrustedList.{values_of, once, read_number16, read_version, strings, read_ids, read_listing, listings, read_listings, read_list, is_wanted, select, read_body, selected, entries, Accepted}
 use Rattle.trusted_list.proofs.Acceptance.{Small, selected_small, accepted_selects, selects_accepted}
 use Rattle.entries.specs.Causes.{kept}

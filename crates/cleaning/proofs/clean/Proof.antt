@@ -3,21 +3,21 @@ use Rattle.cleaning.proofs.Laws.{cleaning}
 use Rattle.cleaning.proofs.clean.Statement.{statement}
 use Rattle.cleaning.proofs.clean.Tie as tie
 
-pub clean-spec : {M : Type 1} → statement M
-clean-spec =
+pub clean_spec : {M : Type 1} → statement M
+clean_spec =
     tie.close
     (tie.spec
     {- prepare-requires -}
     (λ c κs. search cleaning)
-    {- enum-known-x -}
+    {- enum_known-x -}
     (λ c. search cleaning)
-    {- enum-known-owner -}
+    {- enum_known-owner -}
     (λ c. search cleaning)
-    {- write-list-requires -}
+    {- write_list-requires -}
     (λ c κs. search cleaning)
-    {- returns -}
+    {- returns-in-Refused -}
     (λ c. search cleaning)
-    {- same-length -}
+    {- shape_of-out -}
     (λ c. search cleaning)
-    {- returns-2 -}
+    {- returns-in-Listed -}
     (λ c. search cleaning))

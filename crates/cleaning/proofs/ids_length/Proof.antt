@@ -8,45 +8,45 @@ use Rattle.cleaning.proofs.Laws.{sizing}
 use Rattle.cleaning.proofs.ids_length.Statement.{statement}
 use Rattle.cleaning.proofs.ids_length.Tie as tie
 
-abbrev invariant-loop : tie.invariant-loop
-invariant-loop appid owner body ids table d₀ at₀ n₀ d at n = Sizes appid owner table body (length (ids_text true (names appid table (entries_at body ids)))) d.bytes at n
+abbrev invariant-loop-at : tie.invariant-loop-at
+invariant-loop-at appid owner body ids table d₀ at₀ n₀ d at n = Sizes appid owner table body (length (ids_text true (names appid table (entries_at body ids)))) d.bytes at n
 
-abbrev decreases-loop : tie.decreases-loop
-decreases-loop appid owner body ids table d₀ at₀ n₀ d at n = left body at
+abbrev decreases-loop-at : tie.decreases-loop-at
+decreases-loop-at appid owner body ids table d₀ at₀ n₀ d at n = left body at
 
-pub ids-length-spec : {M : Type 1} → statement M
-ids-length-spec =
+pub ids_length_spec : {M : Type 1} → statement M
+ids_length_spec =
     tie.close
     (tie.spec
-    invariant-loop
-    decreases-loop
-    {- first-entry-requires -}
+    invariant-loop-at
+    decreases-loop-at
+    {- first_entry-at-requires -}
     (λ c κs. search sizing)
-    {- loop-holds -}
+    {- loop-at-init -}
     (λ c. search sizing)
-    {- enum-known-at -}
+    {- enum_known-at -}
     (λ c. search sizing)
-    {- enum-told -}
+    {- enum_told-1 -}
     (λ c. search sizing)
-    {- returns -}
+    {- returns-in_default -}
     (λ c. search sizing)
-    {- read-entry-requires -}
+    {- read_entry-e-requires -}
     (λ c κs. search sizing)
-    {- enum-told-2 -}
+    {- enum_told-in-Kept -}
     (λ c. search sizing)
     {- prefix-requires -}
     (λ c κs. search sizing)
-    {- id-length-requires -}
+    {- id_length-n-requires -}
     (λ c κs. search sizing)
-    {- add-n -}
+    {- overflow_add-n -}
     (λ c. search sizing)
-    {- loop-less -}
+    {- loop-at-smaller-in-Kept -}
     (λ c. search sizing)
-    {- loop-again -}
+    {- loop-at-preserved-in-Kept -}
     (λ c. search sizing)
-    {- enum-told-3 -}
+    {- enum_told-in-Discarded -}
     (λ c. search sizing)
-    {- loop-less-2 -}
+    {- loop-at-smaller -}
     (λ c. search sizing)
-    {- loop-again-2 -}
+    {- loop-at-preserved -}
     (λ c. search sizing))

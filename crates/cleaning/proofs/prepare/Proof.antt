@@ -3,37 +3,37 @@ use Rattle.cleaning.proofs.Laws.{preparing}
 use Rattle.cleaning.proofs.prepare.Statement.{statement}
 use Rattle.cleaning.proofs.prepare.Tie as tie
 
-pub prepare-spec : {M : Type 1} → statement M
-prepare-spec =
+pub prepare_spec : {M : Type 1} → statement M
+prepare_spec =
     tie.close
     (tie.spec
-    {- read-appid-requires -}
+    {- read_appid-requires -}
     (λ c κs. search preparing)
-    {- enum-told -}
+    {- enum_told-1 -}
     (λ c. search preparing)
-    {- enum-told-2 -}
+    {- enum_told-in-Foreign -}
     (λ c. search preparing)
-    {- enum-known-end -}
+    {- enum_known-end -}
     (λ c. search preparing)
     {- select-requires -}
     (λ c κs. search preparing)
-    {- enum-known-x -}
+    {- enum_known-x -}
     (λ c. search preparing)
-    {- enum-known-ids -}
+    {- enum_known-ids -}
     (λ c. search preparing)
-    {- find-owner-requires -}
+    {- find_owner-requires -}
     (λ c κs. search preparing)
-    {- enum-told-3 -}
+    {- enum_told-in-BadTable -}
     (λ c. search preparing)
-    {- enum-known-owner -}
+    {- enum_known-owner -}
     (λ c. search preparing)
-    {- returns -}
+    {- returns-in-Bad -}
     (λ c. search preparing)
-    {- returns-2 -}
+    {- returns-in-Foreign -}
     (λ c. search preparing)
-    {- returns-3 -}
+    {- returns-in-Refused -}
     (λ c. search preparing)
-    {- returns-4 -}
+    {- returns-in-BadTable -}
     (λ c. search preparing)
-    {- returns-5 -}
+    {- returns-in-Is -}
     (λ c. search preparing))

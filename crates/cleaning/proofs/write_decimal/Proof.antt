@@ -3,21 +3,21 @@ use Rattle.cleaning.proofs.Laws.{numbers}
 use Rattle.cleaning.proofs.write_decimal.Statement.{statement}
 use Rattle.cleaning.proofs.write_decimal.Tie as tie
 
-pub write-decimal-spec : {M : Type 1} → statement M
-write-decimal-spec =
+pub write_decimal_spec : {M : Type 1} → statement M
+write_decimal_spec =
     tie.close
     (tie.spec
-    {- write-number-requires -}
+    {- write_number-d-requires -}
     (λ c κs. search numbers)
-    {- sub-write-bytes -}
+    {- slice_bounds-write_bytes-count -}
     (λ c. search numbers)
-    {- part-write-bytes-start -}
+    {- slice_bounds-write_bytes-start -}
     (λ c. search numbers)
-    {- part-write-bytes-end -}
+    {- slice_bounds-write_bytes-end -}
     (λ c. search numbers)
-    {- write-bytes-requires -}
+    {- write_bytes-requires -}
     (λ c κs. search numbers)
-    {- same-length -}
+    {- shape_of-out -}
     (λ c. search numbers)
     {- returns -}
     (λ c. search numbers))

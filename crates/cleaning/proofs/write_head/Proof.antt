@@ -3,27 +3,21 @@ use Rattle.cleaning.proofs.Laws.{heading}
 use Rattle.cleaning.proofs.write_head.Statement.{statement}
 use Rattle.cleaning.proofs.write_head.Tie as tie
 
-pub write-head-spec : {M : Type 1} → statement M
-write-head-spec =
+pub write_head_spec : {M : Type 1} → statement M
+write_head_spec =
     tie.close
     (tie.spec
-    {- slice-aggregate-write-bytes -}
-    (λ c. search heading)
-    {- write-bytes-requires -}
+    {- write_bytes-a-requires -}
     (λ c κs. search heading)
-    {- write-decimal-requires -}
+    {- write_decimal-b-requires -}
     (λ c κs. search heading)
-    {- slice-aggregate-write-bytes-2 -}
-    (λ c. search heading)
-    {- write-bytes-requires-2 -}
+    {- write_bytes-c-requires -}
     (λ c κs. search heading)
-    {- write-decimal-requires-2 -}
+    {- write_decimal-d-requires -}
     (λ c κs. search heading)
-    {- slice-aggregate-write-bytes-3 -}
-    (λ c. search heading)
-    {- write-bytes-requires-3 -}
+    {- write_bytes-requires -}
     (λ c κs. search heading)
-    {- same-length -}
+    {- shape_of-out -}
     (λ c. search heading)
     {- returns -}
     (λ c. search heading))

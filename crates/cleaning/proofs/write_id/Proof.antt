@@ -3,19 +3,17 @@ use Rattle.cleaning.proofs.Laws.{laws}
 use Rattle.cleaning.proofs.write_id.Statement.{statement}
 use Rattle.cleaning.proofs.write_id.Tie as tie
 
-pub write-id-spec : {M : Type 1} → statement M
-write-id-spec =
+pub write_id_spec : {M : Type 1} → statement M
+write_id_spec =
     tie.close
     (tie.spec
-    {- write-opening-requires -}
+    {- write_opening-a-requires -}
     (λ c κs. search laws)
-    {- write-normal-requires -}
+    {- write_normal-b-requires -}
     (λ c κs. search laws)
-    {- slice-aggregate-write-bytes -}
-    (λ c. search laws)
-    {- write-bytes-requires -}
+    {- write_bytes-requires -}
     (λ c κs. search laws)
-    {- same-length -}
+    {- shape_of-out -}
     (λ c. search laws)
     {- returns -}
     (λ c. search laws))

@@ -7,45 +7,45 @@ use Rattle.cleaning.proofs.Laws.{write_loop, write_turn}
 use Rattle.cleaning.proofs.write_ids.Statement.{statement}
 use Rattle.cleaning.proofs.write_ids.Tie as tie
 
-abbrev invariant-loop : tie.invariant-loop
-invariant-loop appid owner body ids table out₀ begin d₀ at₀ to₀ out d at to = Written appid owner table body (ids_text true (names appid table (entries_at body ids))) begin out₀ out d.bytes at to
+abbrev invariant-loop-at : tie.invariant-loop-at
+invariant-loop-at appid owner body ids table out₀ begin d₀ at₀ to₀ out d at to = Written appid owner table body (ids_text true (names appid table (entries_at body ids))) begin out₀ out d.bytes at to
 
-abbrev decreases-loop : tie.decreases-loop
-decreases-loop appid owner body ids table out₀ begin d₀ at₀ to₀ out d at to = left body at
+abbrev decreases-loop-at : tie.decreases-loop-at
+decreases-loop-at appid owner body ids table out₀ begin d₀ at₀ to₀ out d at to = left body at
 
-pub write-ids-spec : {M : Type 1} → statement M
-write-ids-spec =
+pub write_ids_spec : {M : Type 1} → statement M
+write_ids_spec =
     tie.close
     (tie.spec
-    invariant-loop
-    decreases-loop
-    {- first-entry-requires -}
+    invariant-loop-at
+    decreases-loop-at
+    {- first_entry-at-requires -}
     (λ c κs. search write_loop)
-    {- loop-holds -}
+    {- loop-at-init -}
     (λ c. search write_loop)
-    {- enum-known-at -}
+    {- enum_known-at -}
     (λ c. search write_loop)
-    {- enum-told -}
+    {- enum_told-1 -}
     (λ c. search write_loop)
-    {- same-length -}
+    {- shape_of-out-in_default -}
     (λ c. search write_loop)
-    {- returns -}
+    {- returns-in_default -}
     (λ c. search write_loop)
-    {- read-entry-requires -}
+    {- read_entry-entry-requires -}
     (λ c κs. search write_loop)
-    {- enum-told-2 -}
+    {- enum_told-in-Kept -}
     (λ c. search write_loop)
     {- prefix-requires -}
     (λ c κs. search write_loop)
-    {- write-id-requires -}
+    {- write_id-to-requires -}
     (λ c κs. search write_loop)
-    {- loop-less -}
+    {- loop-at-smaller-in-Kept -}
     (λ c. search write_loop)
-    {- loop-again -}
+    {- loop-at-preserved-in-Kept -}
     (λ c. search write_turn)
-    {- enum-told-3 -}
+    {- enum_told-in-Discarded -}
     (λ c. search write_loop)
-    {- loop-less-2 -}
+    {- loop-at-smaller -}
     (λ c. search write_loop)
-    {- loop-again-2 -}
+    {- loop-at-preserved -}
     (λ c. search write_turn))

@@ -3,23 +3,21 @@ use Rattle.cleaning.proofs.Laws.{list_last, listing}
 use Rattle.cleaning.proofs.write_list.Statement.{statement}
 use Rattle.cleaning.proofs.write_list.Tie as tie
 
-pub write-list-spec : {M : Type 1} → statement M
-write-list-spec =
+pub write_list_spec : {M : Type 1} → statement M
+write_list_spec =
     tie.close
     (tie.spec
-    {- has-room-requires -}
+    {- has_room-requires -}
     (λ c κs. search listing)
-    {- write-head-requires -}
+    {- write_head-a-requires -}
     (λ c κs. search listing)
-    {- write-ids-requires -}
+    {- write_ids-b-requires -}
     (λ c κs. search listing)
-    {- slice-aggregate-write-bytes -}
+    {- write_bytes-n-requires -}
+    (λ c κs. search listing)
+    {- shape_of-out-then-has_room -}
     (λ c. search listing)
-    {- write-bytes-requires -}
-    (λ c κs. search listing)
-    {- same-length -}
-    (λ c. search listing)
-    {- returns -}
+    {- returns-then-has_room -}
     (λ c. search list_last)
-    {- returns-2 -}
+    {- returns -}
     (λ c. search listing))

@@ -3,23 +3,19 @@ use Rattle.cleaning.proofs.Laws.{laws}
 use Rattle.cleaning.proofs.write_opening.Statement.{statement}
 use Rattle.cleaning.proofs.write_opening.Tie as tie
 
-pub write-opening-spec : {M : Type 1} → statement M
-write-opening-spec =
+pub write_opening_spec : {M : Type 1} → statement M
+write_opening_spec =
     tie.close
     (tie.spec
-    {- slice-aggregate-write-bytes -}
-    (λ c. search laws)
-    {- write-bytes-requires -}
+    {- write_bytes-requires -}
     (λ c κs. search laws)
-    {- same-length -}
+    {- shape_of-out-then-first -}
+    (λ c. search laws)
+    {- returns-then-first -}
+    (λ c. search laws)
+    {- write_bytes-requires-2 -}
+    (λ c κs. search laws)
+    {- shape_of-out -}
     (λ c. search laws)
     {- returns -}
-    (λ c. search laws)
-    {- slice-aggregate-write-bytes-2 -}
-    (λ c. search laws)
-    {- write-bytes-requires-2 -}
-    (λ c κs. search laws)
-    {- same-length-2 -}
-    (λ c. search laws)
-    {- returns-2 -}
     (λ c. search laws))
