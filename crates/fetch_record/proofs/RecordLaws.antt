@@ -128,7 +128,7 @@ unfolding read_end begins_with
 end_one [] b = let z : ◌≡◌ {A = ℕ} 0 1 = cc in absurd (omega arith)
 end_one (c ∷ s) b = let e : 1 ≡ c = eqb-true 1 c (sym (and-true (eqb 1 c)) ∙ b) in rw (← e)
 
--- no more redirects may come: none, as readEnd has it
+-- no more redirects may come: none, as read_end has it
 module _ (lent s : Bytes) (b : begins_with (1 ∷ []) s ≡ true) where
   no_more : checked lent (read_items zero s) ≡ none
   unfolding read_items

@@ -39,7 +39,7 @@ unfoldable pub start_fits : ℕ → Head → Bool
 start_fits start (redirect status authorized location) = leb start 65535
 start_fits start (answer status type_seen) = true
 
--- itemBefore, textBefore: the two outputs' bytes before the call
+-- item_before, text_before: the two outputs' bytes before the call
 
 -- 15, where either output is short or a redirect's start doesn't fit 2 bytes
 unfoldable pub fitting : ℕ → Bytes → Bytes → Head → HeadItem

@@ -1,5 +1,6 @@
 // The record item that a response head makes, and its Location text.
 #![tactic(auto)]
+
 ghost use Rattle.std.specs.Prelude.{◌≡◌, true, ◌/◌, ◌%◌, length};
 ghost use Rattle.std.proofs.Math.Option.{some};
 ghost use Rattle.response_head.specs.ResponseHead.{redirect, read_head};

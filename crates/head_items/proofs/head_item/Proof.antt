@@ -3,37 +3,37 @@ use Rattle.head_items.proofs.WriteLaws.{head_laws}
 use Rattle.head_items.proofs.head_item.Statement.{statement}
 use Rattle.head_items.proofs.head_item.Tie as tie
 
-pub head-item-spec : {M : Type 1} → statement M
-head-item-spec =
+pub head_item_spec : {M : Type 1} → statement M
+head_item_spec =
     tie.close
     (tie.spec
-    {- read-head-requires -}
+    {- read_head-requires -}
     (λ c κs. search head_laws)
-    {- enum-told -}
+    {- enum_told-1 -}
     (λ c. search head_laws)
-    {- enum-known-status -}
+    {- enum_known-status -}
     (λ c. search head_laws)
-    {- write-answer-requires -}
+    {- write_answer-requires -}
     (λ c κs. search head_laws)
-    {- enum-known-status-2 -}
+    {- enum_known-status-in-Redirect-1 -}
     (λ c. search head_laws)
-    {- sub-write-redirect -}
+    {- slice_bounds-write_redirect-count -}
     (λ c. search head_laws)
-    {- part-write-redirect-start -}
+    {- slice_bounds-write_redirect-start -}
     (λ c. search head_laws)
-    {- part-write-redirect-end -}
+    {- slice_bounds-write_redirect-end -}
     (λ c. search head_laws)
-    {- write-redirect-requires -}
+    {- write_redirect-requires -}
     (λ c κs. search head_laws)
-    {- returns -}
+    {- returns-in-Malformed -}
     (λ c. search head_laws)
-    {- same-length -}
+    {- shape_of-item-in-Answer -}
     (λ c. search head_laws)
-    {- returns-2 -}
+    {- returns-in-Answer -}
     (λ c. search head_laws)
-    {- same-length-2 -}
+    {- shape_of-item-in-Redirect -}
     (λ c. search head_laws)
-    {- same-length-3 -}
+    {- shape_of-text -}
     (λ c. search head_laws)
-    {- returns-3 -}
+    {- returns-in-Redirect -}
     (λ c. search head_laws))

@@ -3,21 +3,21 @@ use Rattle.head_items.proofs.WriteLaws.{put_laws}
 use Rattle.head_items.proofs.put_redirect.Statement.{statement}
 use Rattle.head_items.proofs.put_redirect.Tie as tie
 
-pub put-redirect-spec : {M : Type 1} → statement M
-put-redirect-spec =
+pub put_redirect_spec : {M : Type 1} → statement M
+put_redirect_spec =
     tie.close
     (tie.spec
-    {- redirect-item-requires -}
+    {- redirect_item-bytes-requires -}
     (λ c κs. search put_laws)
-    {- slice-aggregate-write-bytes -}
+    {- slice_bounds-write_bytes-end -}
     (λ c. search put_laws)
-    {- write-bytes-requires -}
+    {- write_bytes-requires -}
     (λ c κs. search put_laws)
-    {- write-bytes-requires-2 -}
+    {- write_bytes-requires-2 -}
     (λ c κs. search put_laws)
-    {- same-length -}
+    {- shape_of-item -}
     (λ c. search put_laws)
-    {- same-length-2 -}
+    {- shape_of-text -}
     (λ c. search put_laws)
     {- returns -}
     (λ c. search put_laws))

@@ -3,8 +3,8 @@ use Rattle.head_items.proofs.WriteLaws.{byte_laws}
 use Rattle.head_items.proofs.redirect_item.Statement.{statement}
 use Rattle.head_items.proofs.redirect_item.Tie as tie
 
-pub redirect-item-spec : {M : Type 1} → statement M
-redirect-item-spec =
+pub redirect_item_spec : {M : Type 1} → statement M
+redirect_item_spec =
     tie.close
     (tie.spec
     {- high-requires -}

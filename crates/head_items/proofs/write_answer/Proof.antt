@@ -3,11 +3,11 @@ use Rattle.head_items.proofs.WriteLaws.{answer_laws}
 use Rattle.head_items.proofs.write_answer.Statement.{statement}
 use Rattle.head_items.proofs.write_answer.Tie as tie
 
-pub write-answer-spec : {M : Type 1} → statement M
-write-answer-spec =
+pub write_answer_spec : {M : Type 1} → statement M
+write_answer_spec =
     tie.close
     (tie.spec
-    {- returns -}
+    {- returns-then-item-lt4 -}
     (λ c. search answer_laws)
     {- high-requires -}
     (λ c κs. search answer_laws)
@@ -15,11 +15,11 @@ write-answer-spec =
     (λ c κs. search answer_laws)
     {- seen-requires -}
     (λ c κs. search answer_laws)
-    {- slice-aggregate-write-bytes -}
+    {- slice_bounds-write_bytes-end -}
     (λ c. search answer_laws)
-    {- write-bytes-requires -}
+    {- write_bytes-requires -}
     (λ c κs. search answer_laws)
-    {- same-length -}
+    {- shape_of-item -}
     (λ c. search answer_laws)
-    {- returns-2 -}
+    {- returns -}
     (λ c. search answer_laws))
