@@ -1,5 +1,6 @@
 // The tally: how many entries are kept, and how many are discarded for each cause.
 #![tactic(auto)]
+
 ghost use Rattle.std.specs.Prelude.{◌≡◌, ◌≤◌, length};
 ghost use Rattle.std.proofs.Math.Option.{some};
 ghost use Rattle.entries.specs.code.Owner.{Owned, cause_of};

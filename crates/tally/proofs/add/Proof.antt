@@ -5,4 +5,4 @@ use Rattle.tally.proofs.add.Tie as tie
 
 pub add_spec : {M : Type 1} → statement M
 add_spec =
-    tie.close (tie.spec {- enum-told -} (λ c. search laws) {- add-r -} (λ c. search laws) {- enum-known-v -} (λ c. search laws) {- add-discarded-requires -} (λ c κs. search laws) {- returns -} (λ c. search laws) {- returns-2 -} (λ c. search laws))
+    tie.close (tie.spec {- enum_told-1 -} (λ c. search laws) {- overflow_add-r -} (λ c. search laws) {- enum_known-v -} (λ c. search laws) {- add_discarded-requires -} (λ c κs. search laws) {- returns-in-Kept -} (λ c. search laws) {- returns-in-Discarded -} (λ c. search laws))

@@ -3,31 +3,31 @@ use Rattle.tally.proofs.Laws.{laws}
 use Rattle.tally.proofs.add_discarded.Statement.{statement}
 use Rattle.tally.proofs.add_discarded.Tie as tie
 
-pub add-discarded-spec : {M : Type 1} → statement M
-add-discarded-spec =
+pub add_discarded_spec : {M : Type 1} → statement M
+add_discarded_spec =
     tie.close
     (tie.spec
-    {- enum-told -}
+    {- enum_told-1 -}
     (λ c. search laws)
-    {- add-r -}
+    {- overflow_add-r -}
     (λ c. search laws)
-    {- returns -}
+    {- returns-in-TooLong -}
     (λ c. search laws)
-    {- enum-told-2 -}
+    {- enum_told-in-OtherScheme -}
     (λ c. search laws)
-    {- add-r-2 -}
+    {- overflow_add-r-in-OtherScheme -}
     (λ c. search laws)
-    {- returns-2 -}
+    {- returns-in-OtherScheme -}
     (λ c. search laws)
-    {- enum-told-3 -}
+    {- enum_told-in-NotFacet -}
     (λ c. search laws)
-    {- add-r-3 -}
+    {- overflow_add-r-in-NotFacet -}
     (λ c. search laws)
-    {- returns-3 -}
+    {- returns-in-NotFacet -}
     (λ c. search laws)
-    {- enum-told-4 -}
+    {- enum_told-in-OtherLabel -}
     (λ c. search laws)
-    {- add-r-4 -}
+    {- overflow_add-r-in-OtherLabel -}
     (λ c. search laws)
-    {- returns-4 -}
+    {- returns-in-OtherLabel -}
     (λ c. search laws))

@@ -6,33 +6,33 @@ use Rattle.tally.proofs.Laws.{counting}
 use Rattle.tally.proofs.count_ids.Statement.{statement}
 use Rattle.tally.proofs.count_ids.Tie as tie
 
-abbrev invariant-loop : tie.invariant-loop
-invariant-loop appid owner body ids table d₀ c₀ at₀ d c at = Counting appid owner table body (counts appid table (entries_at body ids)) d.bytes at c
+abbrev invariant-loop-at : tie.invariant-loop-at
+invariant-loop-at appid owner body ids table d₀ c₀ at₀ d c at = Counting appid owner table body (counts appid table (entries_at body ids)) d.bytes at c
 
-abbrev decreases-loop : tie.decreases-loop
-decreases-loop appid owner body ids table d₀ c₀ at₀ d c at = left body at
+abbrev decreases-loop-at : tie.decreases-loop-at
+decreases-loop-at appid owner body ids table d₀ c₀ at₀ d c at = left body at
 
-pub count-ids-spec : {M : Type 1} → statement M
-count-ids-spec =
+pub count_ids_spec : {M : Type 1} → statement M
+count_ids_spec =
     tie.close
     (tie.spec
-    invariant-loop
-    decreases-loop
-    {- first-entry-requires -}
+    invariant-loop-at
+    decreases-loop-at
+    {- first_entry-at-requires -}
     (λ c κs. search counting)
-    {- loop-holds -}
+    {- loop-at-init -}
     (λ c. search counting)
-    {- enum-known-at -}
+    {- enum_known-at -}
     (λ c. search counting)
-    {- enum-told -}
+    {- enum_told-1 -}
     (λ c. search counting)
-    {- returns -}
+    {- returns-in_default -}
     (λ c. search counting)
-    {- read-entry-requires -}
+    {- read_entry-e-requires -}
     (λ c κs. search counting)
-    {- add-requires -}
+    {- add-c-requires -}
     (λ c κs. search counting)
-    {- loop-less -}
+    {- loop-at-smaller -}
     (λ c. search counting)
-    {- loop-again -}
+    {- loop-at-preserved -}
     (λ c. search counting))
