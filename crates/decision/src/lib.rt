@@ -17,7 +17,7 @@ use json_text::{Decoded, Next};
 use refusals::Refusal;
 use trusted_list::Selection;
 
-#[derive(Drop)]
+#[derive(Clone, Copy)]
 pub enum Answer {
     Rule1,
     Rule2,

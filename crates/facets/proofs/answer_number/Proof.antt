@@ -3,35 +3,35 @@ use Rattle.facets.proofs.Laws.{answers}
 use Rattle.facets.proofs.answer_number.Statement.{statement}
 use Rattle.facets.proofs.answer_number.Tie as tie
 
-pub answer-number-spec : {M : Type 1} → statement M
-answer-number-spec =
+pub answer_number_spec : {M : Type 1} → statement M
+answer_number_spec =
     tie.close
     (tie.spec
-    {- enum-told -}
+    {- enum_told-1 -}
     (λ c. search answers)
-    {- enum-told-2 -}
+    {- enum_told-in-Rule2 -}
     (λ c. search answers)
-    {- enum-told-3 -}
+    {- enum_told-in-Rule3 -}
     (λ c. search answers)
-    {- enum-told-4 -}
+    {- enum_told-in-Rule4 -}
     (λ c. search answers)
-    {- enum-told-5 -}
+    {- enum_told-in-Fetch -}
     (λ c. search answers)
-    {- enum-known-a -}
+    {- enum_known-a -}
     (λ c. search answers)
     {- number-requires -}
     (λ c κs. search answers)
-    {- add-result -}
+    {- overflow_add-result -}
     (λ c. search answers)
-    {- returns -}
+    {- returns-in-Rule1 -}
     (λ c. search answers)
-    {- returns-2 -}
+    {- returns-in-Rule2 -}
     (λ c. search answers)
-    {- returns-3 -}
+    {- returns-in-Rule3 -}
     (λ c. search answers)
-    {- returns-4 -}
+    {- returns-in-Rule4 -}
     (λ c. search answers)
-    {- returns-5 -}
+    {- returns-in-Fetch -}
     (λ c. search answers)
-    {- returns-6 -}
+    {- returns-in-Refused -}
     (λ c. search answers))

@@ -3,27 +3,27 @@ use Rattle.facets.proofs.Laws.{cleanings}
 use Rattle.facets.proofs.facets_clean.Statement.{statement}
 use Rattle.facets.proofs.facets_clean.Tie as tie
 
-pub facets-clean-spec : {M : Type 1} → statement M
-facets-clean-spec =
+pub facets_clean_spec : {M : Type 1} → statement M
+facets_clean_spec =
     tie.close
     (tie.spec
     {- clean-requires -}
     (λ c κs. search cleanings)
-    {- enum-known-x -}
+    {- enum_known-x -}
     (λ c. search cleanings)
-    {- number-requires -}
+    {- number-n-requires -}
     (λ c κs. search cleanings)
-    {- cast-t14 -}
+    {- overflow_cast-result -}
     (λ c. search cleanings)
-    {- enum-known-n -}
+    {- enum_known-n -}
     (λ c. search cleanings)
-    {- cast-t15 -}
+    {- overflow_cast-result-in-Length -}
     (λ c. search cleanings)
-    {- same-length -}
+    {- shape_of-out-in-Refused -}
     (λ c. search cleanings)
-    {- returns -}
+    {- returns-in-Refused -}
     (λ c. (search cleanings, (search cleanings, (search cleanings, search cleanings))))
-    {- same-length-2 -}
+    {- shape_of-out-in-Length -}
     (λ c. search cleanings)
-    {- returns-2 -}
+    {- returns-in-Length -}
     (λ c. (search cleanings, (search cleanings, (search cleanings, search cleanings)))))

@@ -3,29 +3,29 @@ use Rattle.facets.proofs.Laws.{locating}
 use Rattle.facets.proofs.facets_fetch_location.Statement.{statement}
 use Rattle.facets.proofs.facets_fetch_location.Tie as tie
 
-pub facets-fetch-location-spec : {M : Type 1} → statement M
-facets-fetch-location-spec =
+pub facets_fetch_location_spec : {M : Type 1} → statement M
+facets_fetch_location_spec =
     tie.close
     (tie.spec
     {- locate-requires -}
     (λ c κs. search locating)
-    {- enum-told -}
+    {- enum_told-1 -}
     (λ c. search locating)
-    {- enum-told-2 -}
+    {- enum_told-in-AppId -}
     (λ c. search locating)
-    {- cast-t11 -}
+    {- overflow_cast-result -}
     (λ c. search locating)
-    {- enum-known-a -}
+    {- enum_known-a -}
     (λ c. search locating)
-    {- sub-n -}
+    {- overflow_sub-n -}
     (λ c. search locating)
-    {- cast-t12 -}
+    {- overflow_cast-result-in-Text -}
     (λ c. search locating)
-    {- cast-t13 -}
+    {- overflow_cast-result-in-Text-2 -}
     (λ c. search locating)
-    {- returns -}
+    {- returns-in-Nothing -}
     (λ c. (search locating, (search locating, (search locating, (search locating, search locating)))))
-    {- returns-2 -}
+    {- returns-in-AppId -}
     (λ c. (search locating, (search locating, (search locating, (search locating, search locating)))))
-    {- returns-3 -}
+    {- returns-in-Text -}
     (λ c. (search locating, (search locating, (search locating, (search locating, search locating))))))

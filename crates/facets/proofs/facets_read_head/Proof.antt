@@ -3,33 +3,33 @@ use Rattle.facets.proofs.Laws.{heads}
 use Rattle.facets.proofs.facets_read_head.Statement.{statement}
 use Rattle.facets.proofs.facets_read_head.Tie as tie
 
-pub facets-read-head-spec : {M : Type 1} → statement M
-facets-read-head-spec =
+pub facets_read_head_spec : {M : Type 1} → statement M
+facets_read_head_spec =
     tie.close
     (tie.spec
-    {- head-item-requires -}
+    {- head_item-requires -}
     (λ c κs. search heads)
-    {- enum-known-x -}
+    {- enum_known-x -}
     (λ c. search heads)
     {- number-requires -}
     (λ c κs. search heads)
-    {- cast-t15 -}
+    {- overflow_cast-result -}
     (λ c. search heads)
-    {- enum-known-n -}
+    {- enum_known-n -}
     (λ c. search heads)
-    {- cast-t16 -}
+    {- overflow_cast-result-in-Written -}
     (λ c. search heads)
-    {- cast-t17 -}
+    {- overflow_cast-result-in-Written-2 -}
     (λ c. search heads)
-    {- same-length -}
+    {- shape_of-item-in-Refused -}
     (λ c. search heads)
-    {- same-length-2 -}
+    {- shape_of-text-in-Refused -}
     (λ c. search heads)
-    {- returns -}
+    {- returns-in-Refused -}
     (λ c. (search heads, (search heads, (search heads, (search heads, search heads)))))
-    {- same-length-3 -}
+    {- shape_of-item-in-Written -}
     (λ c. search heads)
-    {- same-length-4 -}
+    {- shape_of-text-in-Written -}
     (λ c. search heads)
-    {- returns-2 -}
+    {- returns-in-Written -}
     (λ c. (search heads, (search heads, (search heads, (search heads, search heads))))))

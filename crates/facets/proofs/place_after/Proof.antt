@@ -3,33 +3,33 @@ use Rattle.facets.proofs.Laws.{answers}
 use Rattle.facets.proofs.place_after.Statement.{statement}
 use Rattle.facets.proofs.place_after.Tie as tie
 
-pub place-after-spec : {M : Type 1} → statement M
-place-after-spec =
+pub place_after_spec : {M : Type 1} → statement M
+place_after_spec =
     tie.close
     (tie.spec
-    {- enum-known-a -}
+    {- enum_known-a -}
     (λ c. search answers)
-    {- cast-result -}
+    {- overflow_cast-result -}
     (λ c. search answers)
-    {- enum-told -}
+    {- enum_told-1 -}
     (λ c. search answers)
-    {- enum-told-2 -}
+    {- enum_told-in-Rule2 -}
     (λ c. search answers)
-    {- enum-told-3 -}
+    {- enum_told-in-Rule3 -}
     (λ c. search answers)
-    {- enum-told-4 -}
+    {- enum_told-in-Fetch -}
     (λ c. search answers)
-    {- enum-told-5 -}
+    {- enum_told-in-Refused -}
     (λ c. search answers)
-    {- returns -}
+    {- returns-in-Rule4 -}
     (λ c. search answers)
-    {- returns-2 -}
+    {- returns-in-Rule1 -}
     (λ c. search answers)
-    {- returns-3 -}
+    {- returns-in-Rule2 -}
     (λ c. search answers)
-    {- returns-4 -}
+    {- returns-in-Rule3 -}
     (λ c. search answers)
-    {- returns-5 -}
+    {- returns-in-Fetch -}
     (λ c. search answers)
-    {- returns-6 -}
+    {- returns-in-Refused -}
     (λ c. search answers))
