@@ -1,6 +1,6 @@
 """Compares the JSON reader with Python's, over generated and damaged texts.
 
-    rt check json_run && python3 tools/compare_json.py
+    python3 tools/compare_json.py      (after `rt run` in crates/json_run, or `rt ci`)
 
 Python's reader with its leniencies closed: UTF-8 decoded strictly first, no byte-order mark, no NaN or Infinity, no control bytes in
 strings, no surrogate outside a pair, at most 16 arrays and objects open together. Compared is whether a text is readable and, where
@@ -9,7 +9,7 @@ it is one string, its decoded bytes. It fails on a difference, and where a class
 import collections, json, os, random, struct, subprocess, sys
 COUNT, LEAST, MOST = 120000, 1000, 4096
 KINDS = ('readable', 'unreadable', 'string decoded', 'string too long', 'bad UTF-8', 'bad grammar', 'too deep', 'lone surrogate')
-RUN = os.path.join(os.path.dirname(os.path.dirname(os.path.abspath(__file__))), 'target', 'bin', 'json_run')
+RUN = os.path.join(os.path.dirname(os.path.dirname(os.path.abspath(__file__))), 'crates', 'json_run', 'out', 'json_run')
 rng = random.Random(8259)
 
 # ---- the other reader

@@ -1,7 +1,7 @@
 """Runs the program `clean` on refusals and on both sides of its bounds, and bin/clean over it. What they must print is worked out from
 document 01's words below.
 
-    python3 tools/run_clean.py      (after `rt check clean` or `rt ci`)
+    python3 tools/run_clean.py      (after `rt run` in crates/clean, or `rt ci`)
 """
 import os, subprocess, sys, tempfile
 
@@ -123,7 +123,7 @@ def compare(name, got, wanted):
 
 for name, appid, table, text, wanted in RUNS:
     wanted = b'refused %d\n' % wanted[1] if isinstance(wanted, tuple) else wanted + b'\n'
-    done = in_folder((appid, table, text), [os.path.join(TOP, 'target', 'bin', 'clean')])
+    done = in_folder((appid, table, text), [os.path.join(TOP, 'crates', 'clean', 'out', 'clean')])
     compare(name, (done.returncode, done.stdout), (0, wanted))
 for name, words, files, status, printed, named in WRAPPED:
     done = in_folder(files, [os.path.join(TOP, 'bin', 'clean'), *words])

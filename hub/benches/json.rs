@@ -50,13 +50,13 @@ fn bodies() -> Vec<(&'static str, Vec<u8>)> {
 
 /// The time of the program's 1,000 turns, its start and its input among them.
 fn proved(body: &[u8]) -> Duration {
-    let program = concat!(env!("CARGO_MANIFEST_DIR"), "/../target/bin/json_bench");
+    let program = concat!(env!("CARGO_MANIFEST_DIR"), "/../crates/json_bench/out/json_bench");
     let begin = Instant::now();
     let mut child = Command::new(program)
         .stdin(Stdio::piped())
         .stdout(Stdio::piped())
         .spawn()
-        .expect("target/bin/json_bench, by `rt check json_bench` at the repository's root");
+        .expect("crates/json_bench/out/json_bench, by `rt run` in crates/json_bench");
     child.stdin.take().expect("a pipe").write_all(body).expect("the program reads");
     let output = child.wait_with_output().expect("the program ends");
     assert_eq!(output.stdout, b"1000 readable\n");

@@ -1,67 +1,79 @@
 // Reads the files `appid`, `table` and `body`, wants version 1.0, and prints the cleaned list and an LF; on refusal `refused `,
 // the number, LF. A file that can't be opened counts as empty. A table of more than 65,536 bytes is treated as bad.
 #![tactic(auto)]
-ghost use Rattle.io.specs.Counts.{IsPrefixLen};
+
+ghost use Rattle.std.specs.Prelude.{◌≤◌, length, IfOk};
 
 use cleaning::Output;
-use libc::STDOUT_FILENO;
 use refusals::Refusal;
+use std::io::Read;
+use std::rt::Files;
+use std::{fs, io};
+
+// Reads until buf is full or the input ends: how many bytes stand at its start.
+fn read_full(reader: &mut impl Read, buf: &mut [u8]) -> io::Result<usize>
+    ensures { IfOk result (λ n. n ≤ length buf.new) }
+{
+    let mut done = 0;
+    while done < buf.len() {
+        let n = reader.read(&mut buf[done..])?;
+        if n == 0 {
+            return Ok(done);
+        }
+        done += n;
+    }
+    Ok(done)
+}
 
 // The bytes of a file, as many as there is room for. One byte of room more than a bound shows that the file is longer.
-fn read_file(name: &[u8], room: &mut [u8]) -> usize
-    ensures { IsPrefixLen result room.new }
+fn read_file(rt: &impl Files, name: &str, room: &mut [u8]) -> io::Result<usize>
+    ensures { IfOk result (λ n. n ≤ length room.new) }
 {
-    let fd = os::open_read(name);
-    if fd < 0 {
-        return 0;
-    }
-    let n = io::read_full(fd, room);
-    libc::close(fd);
-    n
+    let Ok(mut file) = fs::open(rt, name) else {
+        return Ok(0);
+    };
+    read_full(&mut file, room)
 }
 
-fn print_refusal(x: Refusal) -> bool {
-    let n = refusals::number(x);
-    if io::write_all(STDOUT_FILENO, b"refused ") {
-        if io::print_decimal(STDOUT_FILENO, n as u64) {
-            return io::write_all(STDOUT_FILENO, b"\n");
-        }
-    }
-    false
+fn print_refusal(rt: &impl Print, x: Refusal) -> io::Result<()> {
+    println!(rt; "refused {}", refusals::number(x))
 }
 
-fn print_list(out: &[u8], n: usize) -> bool {
+fn print_list(rt: &impl Print, out: &[u8], n: usize) -> io::Result<()> {
     if n <= out.len() {
-        if io::write_all(STDOUT_FILENO, &out[0..n]) {
-            return io::write_all(STDOUT_FILENO, b"\n");
-        }
+        rt.write_all(&out[0..n])?;
+        rt.write_all(b"\n")?;
     }
-    false
+    Ok(())
 }
 
-fn print_cleaned(appid: &[u8], body: &[u8], table: &[u8]) -> bool {
-    let mut room = io::large_buffer();
-    let out: &mut [u8] = &mut room;
-    match cleaning::clean(appid, 1, 0, body, table, out) {
-        Output::Refused(x) => print_refusal(x),
-        Output::Length(n) => print_list(out, n),
+fn print_cleaned(
+    rt: &(impl Print + AllocGlobal),
+    appid: &[u8],
+    body: &[u8],
+    table: &[u8],
+) -> io::Result<()> {
+    let mut out = vec![in rt.alloc(); 0u8; 65536]?;
+    match cleaning::clean(appid, 1, 0, body, table, &mut out) {
+        Output::Refused(x) => print_refusal(rt, x),
+        Output::Length(n) => print_list(rt, &out, n),
     }
 }
 
-fn clean_files() -> bool {
-    let mut appid = [0u8; 2049];
-    let a = read_file(b"appid", &mut appid);
-    let mut body = [0u8; 65537];
-    let b = read_file(b"body", &mut body);
-    let mut table = [0u8; 65537];
-    let t = read_file(b"table", &mut table);
+fn clean_files(rt: &(impl Files + Print + AllocGlobal)) -> io::Result<()> {
+    let mut appid = vec![in rt.alloc(); 0u8; 2049]?;
+    let a = read_file(rt, "appid", &mut appid)?;
+    let mut body = vec![in rt.alloc(); 0u8; 65537]?;
+    let b = read_file(rt, "body", &mut body)?;
+    let mut table = vec![in rt.alloc(); 0u8; 65537]?;
+    let t = read_file(rt, "table", &mut table)?;
     if 65536 < t {
         // no rule, so a bad table
-        return print_cleaned(&appid[0..a], &body[0..b], b"!");
+        return print_cleaned(rt, &appid[0..a], &body[0..b], b"!");
     }
-    print_cleaned(&appid[0..a], &body[0..b], &table[0..t])
+    print_cleaned(rt, &appid[0..a], &body[0..b], &table[0..t])
 }
 
-fn main() {
-    clean_files();
+fn main(rt: HostRuntime) -> io::Result<()> {
+    clean_files(&rt)
 }

@@ -2,12 +2,15 @@
 // Its first byte is set to a blank before each turn. hub/benches/json.rs takes the time.
 #![tactic(auto)]
 
-use libc::{STDIN_FILENO, STDOUT_FILENO};
+ghost use Rattle.std.specs.Prelude.{◌≤◌, length, IfOk};
+
+use std::io;
+use std::io::Read;
 use std::num::wrapping_add_u64;
 
 fn is_readable(s: &[u8], n: usize) -> bool {
     if n <= s.len() {
-        return json::is_readable(&s[0..n]);
+        return json_values::is_readable(&s[0..n]);
     }
     false
 }
@@ -25,19 +28,30 @@ fn turn(s: &mut [u8], n: usize, blank: u8) -> u64 {
 
 fn turns(s: &mut [u8], n: usize) -> u64 {
     let mut count: u64 = 0;
-    let mut left: u32 = 500;
-    while left > 0 {
+    for _ in 0..500 {
         count = wrapping_add_u64(count, turn(s, n, 32));
         count = wrapping_add_u64(count, turn(s, n, 10));
-        left -= 1;
     }
     count
 }
 
-fn main() {
-    let mut space = io::large_buffer();
-    let buf: &mut [u8] = &mut space;
-    let n = io::read_full(STDIN_FILENO, buf);
-    io::print_decimal(STDOUT_FILENO, turns(buf, n));
-    io::write_all(STDOUT_FILENO, b" readable\n");
+// Reads until buf is full or the input ends: how many bytes stand at its start.
+fn read_full(reader: &mut impl Read, buf: &mut [u8]) -> io::Result<usize>
+    ensures { IfOk result (λ n. n ≤ length buf.new) }
+{
+    let mut done = 0;
+    while done < buf.len() {
+        let n = reader.read(&mut buf[done..])?;
+        if n == 0 {
+            return Ok(done);
+        }
+        done += n;
+    }
+    Ok(done)
+}
+
+fn main(rt: HostRuntime) -> io::Result<()> {
+    let mut buf = vec![in rt.alloc(); 0u8; 65536]?;
+    let n = read_full(&mut rt.reader(), &mut buf)?;
+    println!(rt; "{} readable", turns(&mut buf, n))
 }

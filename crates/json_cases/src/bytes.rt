@@ -62,32 +62,26 @@ fn is_tail(b: u8) -> bool {
 
 pub fn all_raw() -> Tally {
     let mut t = none();
-    let mut b: u16 = 0;
-    while b < 256 {
+    for b in 0u16..256 {
         t = tell(t, raw(b as u8) == is_plain(b as u8));
-        b += 1;
     }
     t
 }
 
 pub fn all_escaped() -> Tally {
     let mut t = none();
-    let mut b: u16 = 0;
-    while b < 256 {
+    for b in 0u16..256 {
         t = tell(t, two(b'\\', b as u8) == is_short_escape(b as u8));
-        b += 1;
     }
     t
 }
 
 pub fn all_pairs() -> Tally {
     let mut t = none();
-    let mut n: u32 = 0;
-    while n < 65536 {
+    for n in 0u32..65536 {
         let a = (n / 256) as u8;
         let b = (n % 256) as u8;
         t = tell(t, two(a, b) == is_pair(a, b));
-        n += 1;
     }
     t
 }

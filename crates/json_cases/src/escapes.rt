@@ -41,11 +41,9 @@ fn alone(n: u16, upper: bool) -> bool {
 
 pub fn all_alone() -> Tally {
     let mut t = none();
-    let mut n: u32 = 0;
-    while n < 65536 {
+    for n in 0u32..65536 {
         t = tell(t, alone(n as u16, false));
         t = tell(t, alone(n as u16, true));
-        n += 1;
     }
     t
 }

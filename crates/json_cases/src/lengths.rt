@@ -50,11 +50,9 @@ fn one_length(t: Tally, n: usize, m: usize) -> Tally {
 
 pub fn all() -> Tally {
     let mut t = none();
-    let mut n = 500;
-    while n < 525 {
+    for n in 500..525 {
         t = one_length(t, n, 0);
         t = one_length(t, n, 1);
-        n += 1;
     }
     t
 }

@@ -53,10 +53,8 @@ fn one_depth(t: Tally, n: usize) -> Tally {
 
 pub fn all() -> Tally {
     let mut t = none();
-    let mut n = 1;
-    while n <= 40 {
+    for n in 1..=40 {
         t = one_depth(t, n);
-        n += 1;
     }
     t
 }

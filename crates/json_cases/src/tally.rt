@@ -1,5 +1,5 @@
 // How many cases came out as expected, of how many.
-use libc::STDOUT_FILENO;
+use std::io;
 use std::num::wrapping_add_u64;
 
 #[derive(Drop)]
@@ -25,11 +25,7 @@ pub fn tell(t: Tally, as_expected: bool) -> Tally {
     }
 }
 
-pub fn print(what: &[u8], t: Tally) {
-    io::write_all(STDOUT_FILENO, what);
-    io::write_all(STDOUT_FILENO, b": ");
-    io::print_decimal(STDOUT_FILENO, t.right);
-    io::write_all(STDOUT_FILENO, b" of ");
-    io::print_decimal(STDOUT_FILENO, t.all);
-    io::write_all(STDOUT_FILENO, b" as expected\n");
+pub fn print(rt: &impl Print, what: &[u8], t: Tally) -> io::Result<()> {
+    rt.write_all(what)?;
+    println!(rt; ": {} of {} as expected", t.right, t.all)
 }

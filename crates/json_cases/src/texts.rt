@@ -12,10 +12,8 @@ pub fn put(buf: &mut [u8], at: usize, b: u8) -> usize {
 
 pub fn put_all(buf: &mut [u8], at: usize, bytes: &[u8]) -> usize {
     let mut to = at;
-    let mut i = 0;
-    while i < bytes.len() {
-        to = put(buf, to, bytes[i]);
-        i += 1;
+    for b in bytes {
+        to = put(buf, to, *b);
     }
     to
 }
@@ -23,10 +21,8 @@ pub fn put_all(buf: &mut [u8], at: usize, bytes: &[u8]) -> usize {
 // The bytes, n times.
 pub fn put_times(buf: &mut [u8], at: usize, bytes: &[u8], n: usize) -> usize {
     let mut to = at;
-    let mut left = n;
-    while left > 0 {
+    for _ in 0..n {
         to = put_all(buf, to, bytes);
-        left -= 1;
     }
     to
 }
@@ -56,7 +52,7 @@ pub fn put_escape(buf: &mut [u8], at: usize, n: u16, upper: bool) -> usize {
 
 pub fn is_readable(buf: &[u8], n: usize) -> bool {
     if n <= buf.len() {
-        return json::is_readable(&buf[0..n]);
+        return json_values::is_readable(&buf[0..n]);
     }
     false
 }
@@ -69,7 +65,7 @@ pub fn decodes_to(buf: &[u8], n: usize, content: &[u8], m: usize) -> bool {
     if m > content.len() {
         return false;
     }
-    if !json::is_readable(&buf[0..n]) {
+    if !json_values::is_readable(&buf[0..n]) {
         return false;
     }
     let mut space = [0u8; 512];

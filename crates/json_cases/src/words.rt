@@ -16,7 +16,7 @@ fn piece_end(s: &[u8], from: usize) -> usize {
 fn piece_is_readable(s: &[u8], from: usize, to: usize) -> bool {
     if from <= to {
         if to <= s.len() {
-            return json::is_readable(&s[from..to]);
+            return json_values::is_readable(&s[from..to]);
         }
     }
     false

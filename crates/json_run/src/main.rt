@@ -2,8 +2,11 @@
 // `unreadable`, `readable`, or, where the text is one string, `string` and its decoded bytes in hexadecimal, or `string long`.
 #![tactic(auto)]
 
+ghost use Rattle.std.specs.Prelude.{◌≤◌, length, IfOk};
+
 use json_text::Progress;
-use libc::{STDIN_FILENO, STDOUT_FILENO};
+use std::io;
+use std::io::Read;
 
 fn digit(n: u8) -> u8 {
     if n < 10 {
@@ -25,10 +28,8 @@ fn put(line: &mut [u8], at: usize, b: u8) -> usize {
 
 fn put_all(line: &mut [u8], at: usize, bytes: &[u8]) -> usize {
     let mut to = at;
-    let mut i = 0;
-    while i < bytes.len() {
-        to = put(line, to, bytes[i]);
-        i += 1;
+    for b in bytes {
+        to = put(line, to, *b);
     }
     to
 }
@@ -59,65 +60,84 @@ fn put_decoded(line: &mut [u8], at: usize, bytes: &[u8; 512], n: usize) -> usize
     put_hex(line, at, bytes, n)
 }
 
-fn write_line(line: &[u8], n: usize) -> bool {
+// Writes the first n bytes of the line; false where it has fewer.
+fn write_line(rt: &impl Print, line: &[u8], n: usize) -> io::Result<bool> {
     if n <= line.len() {
-        return io::write_all(STDOUT_FILENO, &line[0..n]);
+        rt.write_all(&line[0..n])?;
+        return Ok(true);
     }
-    false
+    Ok(false)
 }
 
 // The answer to one text.
-fn answer(s: &[u8]) -> bool {
-    if !json::is_readable(s) {
-        return io::write_all(STDOUT_FILENO, b"unreadable\n");
+fn answer(rt: &impl Print, s: &[u8]) -> io::Result<bool> {
+    if !json_values::is_readable(s) {
+        rt.write_all(b"unreadable\n")?;
+        return Ok(true);
     }
     let i = json_text::skip_blanks(s, 0);
     if json_text::byte_at(s, i) != json_text::QUOTATION_MARK {
-        return io::write_all(STDOUT_FILENO, b"readable\n");
+        rt.write_all(b"readable\n")?;
+        return Ok(true);
     }
     let mut bytes = [0u8; 512];
     let Progress::On(n, _) = json_text::decoding::decode_string(&mut bytes, s, i) else {
-        return false;
+        return Ok(false);
     };
     let mut space = [0u8; 1040];
     let line: &mut [u8] = &mut space;
     let a = put_all(line, 0, b"string ");
     let b = put_decoded(line, a, &bytes, n);
     let c = put(line, b, b'\n');
-    write_line(line, c)
+    write_line(rt, line, c)
 }
 
-fn answer_first(buf: &[u8], n: usize) -> bool {
+fn answer_first(rt: &impl Print, buf: &[u8], n: usize) -> io::Result<bool> {
     if n <= buf.len() {
-        return answer(&buf[0..n]);
+        return answer(rt, &buf[0..n]);
     }
-    false
+    Ok(false)
 }
 
 fn wide(x: u8) -> usize {
     x as usize
 }
 
-fn read_some(buf: &mut [u8], n: usize) -> usize {
-    if n <= buf.len() {
-        return io::read_full(STDIN_FILENO, &mut buf[0..n]);
+// Reads until buf is full or the input ends: how many bytes stand at its start.
+fn read_full(reader: &mut impl Read, buf: &mut [u8]) -> io::Result<usize>
+    ensures { IfOk result (λ n. n ≤ length buf.new) }
+{
+    let mut done = 0;
+    while done < buf.len() {
+        let n = reader.read(&mut buf[done..])?;
+        if n == 0 {
+            return Ok(done);
+        }
+        done += n;
     }
-    0
+    Ok(done)
+}
+
+fn read_some(reader: &mut impl Read, buf: &mut [u8], n: usize) -> io::Result<usize> {
+    if n <= buf.len() {
+        return read_full(reader, &mut buf[0..n]);
+    }
+    Ok(0)
 }
 
 // Answers one text; false at the end of the input.
-fn one() -> bool {
+fn one(rt: &impl Print, reader: &mut impl Read) -> io::Result<bool> {
     let mut length = [0u8; 2];
-    if io::read_full(STDIN_FILENO, &mut length) < 2 {
-        return false;
+    if read_full(reader, &mut length)? < 2 {
+        return Ok(false);
     }
     let n = sum(wide(length[0]), wide(length[1]));
     let mut space = [0u8; 4096];
     let buf: &mut [u8] = &mut space;
-    if read_some(buf, n) != n {
-        return false;
+    if read_some(reader, buf, n)? != n {
+        return Ok(false);
     }
-    answer_first(buf, n)
+    answer_first(rt, buf, n)
 }
 
 fn sum(high: usize, low: usize) -> usize {
@@ -129,9 +149,12 @@ fn sum(high: usize, low: usize) -> usize {
     0
 }
 
-fn main() {
-    let mut turns = u64::MAX;
-    while turns > 0 && one() {
-        turns -= 1;
+fn main(rt: HostRuntime) -> io::Result<()> {
+    let mut reader = rt.reader();
+    for _ in 0..u64::MAX {
+        if !one(&rt, &mut reader)? {
+            break;
+        }
     }
+    Ok(())
 }

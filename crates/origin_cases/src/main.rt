@@ -3,67 +3,63 @@
 // holds what document 01 says of each.
 #![tactic(auto)]
 
-use libc::{STDIN_FILENO, STDOUT_FILENO};
+ghost use Rattle.std.specs.Prelude.{◌≤◌, length, IfOk};
+ghost use Rattle.origin_cases.specs.Lines.{Between};
+
 use origin::Reading;
+use std::io;
+use std::io::Read;
 
 mod forms;
 
-ghost use Rattle.std.specs.Prelude.{◌≤◌, length};
-ghost use Rattle.origin_cases.specs.Lines.{Between};
-
-fn put(text: &[u8]) {
-    io::write_all(STDOUT_FILENO, text);
+fn put(rt: &impl Print, text: &[u8]) -> io::Result<()> {
+    rt.write_all(text)
 }
 
-fn mark(yes: bool, letter: &[u8]) {
-    if yes {
-        put(letter);
-    } else {
-        put(b"-");
-    }
+fn mark(rt: &impl Print, yes: bool, letter: &[u8]) -> io::Result<()> {
+    if yes { put(rt, letter) } else { put(rt, b"-") }
 }
 
-fn found(r: Reading, letter: &[u8]) {
+fn found(rt: &impl Print, r: Reading, letter: &[u8]) -> io::Result<()> {
     if let Reading::Found(_) = r {
-        put(letter);
+        put(rt, letter)
     } else {
-        put(b"-");
+        put(rt, b"-")
     }
 }
 
-fn begins(s: &[u8]) {
+fn begins(rt: &impl Print, s: &[u8]) -> io::Result<()> {
     if origin::begins_https(s) {
-        put(b"h");
+        put(rt, b"h")
     } else {
-        mark(origin::begins_native(s), b"n");
+        mark(rt, origin::begins_native(s), b"n")
     }
 }
 
-fn named(name: &[u8], s: &[u8]) {
-    begins(s);
-    found(origin::web_origin(s), b"w");
-    found(origin::https_url(s), b"u");
-    mark(origin::is_android(s), b"a");
-    mark(origin::is_ios(s), b"i");
-    mark(origin::is_facet(s), b"f");
-    put(b" ");
-    put(name);
-    put(b"\n");
+fn named(rt: &impl Print, name: &[u8], s: &[u8]) -> io::Result<()> {
+    begins(rt, s)?;
+    found(rt, origin::web_origin(s), b"w")?;
+    found(rt, origin::https_url(s), b"u")?;
+    mark(rt, origin::is_android(s), b"a")?;
+    mark(rt, origin::is_ios(s), b"i")?;
+    mark(rt, origin::is_facet(s), b"f")?;
+    put(rt, b" ")?;
+    put(rt, name)?;
+    put(rt, b"\n")
 }
 
 // The first n bytes of s.
-fn first(name: &[u8], s: &[u8], n: usize) {
+fn first(rt: &impl Print, name: &[u8], s: &[u8], n: usize) -> io::Result<()> {
     if n <= s.len() {
-        named(name, &s[0..n]);
+        named(rt, name, &s[0..n])?;
     }
+    Ok(())
 }
 
 // Every byte of s is the letter a.
 fn fill(s: &mut [u8]) {
-    let mut i = 0;
-    while i < s.len() {
-        s[i] = 97;
-        i += 1;
+    for x in s.iter_mut() {
+        *x = 97;
     }
 }
 
@@ -82,91 +78,108 @@ fn line_end(s: &[u8], from: usize) -> usize
 }
 
 // Each line of s.
-fn lines(s: &[u8]) {
+fn lines(rt: &impl Print, s: &[u8]) -> io::Result<()> {
     let mut from = 0;
     while from < s.len() {
         let to = line_end(s, from);
         let line = &s[from..to];
-        named(line, line);
+        named(rt, line, line)?;
         from = to + 1;
     }
+    Ok(())
 }
 
-fn first_lines(s: &[u8], n: usize) {
+fn first_lines(rt: &impl Print, s: &[u8], n: usize) -> io::Result<()> {
     if n <= s.len() {
-        lines(&s[0..n]);
+        lines(rt, &s[0..n])?;
     }
+    Ok(())
 }
 
-fn input() {
-    let mut buffer = io::buffer();
-    let n = io::read_full(STDIN_FILENO, &mut buffer);
-    first_lines(&buffer, n);
+// Reads until buf is full or the input ends: how many bytes stand at its start.
+fn read_full(reader: &mut impl Read, buf: &mut [u8]) -> io::Result<usize>
+    ensures { IfOk result (λ n. n ≤ length buf.new) }
+{
+    let mut done = 0;
+    while done < buf.len() {
+        let n = reader.read(&mut buf[done..])?;
+        if n == 0 {
+            return Ok(done);
+        }
+        done += n;
+    }
+    Ok(done)
 }
 
-fn tail_bytes() {
-    named(b"0x20 in a tail", b"https://a.b/ ");
-    named(b"0x21 in a tail", b"https://a.b/!");
-    named(b"0x22 in a tail", b"https://a.b/\"");
-    named(b"0x23 in a tail", b"https://a.b/#");
-    named(b"0x24 in a tail", b"https://a.b/$");
-    named(b"0x7E in a tail", b"https://a.b/~");
-    named(b"0x7F in a tail", b"https://a.b/\x7F");
-    named(b"0x80 in a tail", b"https://a.b/\x80");
+fn input(rt: &(impl Input + Print)) -> io::Result<()> {
+    let mut buffer = [0u8; 4096];
+    let n = read_full(&mut rt.reader(), &mut buffer)?;
+    first_lines(rt, &buffer, n)
+}
+
+fn tail_bytes(rt: &impl Print) -> io::Result<()> {
+    named(rt, b"0x20 in a tail", b"https://a.b/ ")?;
+    named(rt, b"0x21 in a tail", b"https://a.b/!")?;
+    named(rt, b"0x22 in a tail", b"https://a.b/\"")?;
+    named(rt, b"0x23 in a tail", b"https://a.b/#")?;
+    named(rt, b"0x24 in a tail", b"https://a.b/$")?;
+    named(rt, b"0x7E in a tail", b"https://a.b/~")?;
+    named(rt, b"0x7F in a tail", b"https://a.b/\x7F")?;
+    named(rt, b"0x80 in a tail", b"https://a.b/\x80")
 }
 
 // Labels of 63, 63, 63 and the rest.
-fn long_hosts() {
-    let mut s = io::buffer();
+fn long_hosts(rt: &impl Print) -> io::Result<()> {
+    let mut s = [0u8; 4096];
     fill(&mut s);
     normal_forms::write_bytes(b"https://", &mut s, 0);
-    first(b"label of 63", &s, 71);
-    first(b"label of 64", &s, 72);
+    first(rt, b"label of 63", &s, 71)?;
+    first(rt, b"label of 64", &s, 72)?;
     s[71] = 46;
     s[135] = 46;
     s[199] = 46;
-    first(b"host of 253", &s, 261);
-    first(b"host of 254", &s, 262);
+    first(rt, b"host of 253", &s, 261)?;
+    first(rt, b"host of 254", &s, 262)
 }
 
-fn longest_origin() {
-    let mut s = io::buffer();
+fn longest_origin(rt: &impl Print) -> io::Result<()> {
+    let mut s = [0u8; 4096];
     fill(&mut s);
     normal_forms::write_bytes(b"https://", &mut s, 0);
     s[71] = 46;
     s[135] = 46;
     s[199] = 46;
     normal_forms::write_bytes(b":65535//", &mut s, 261);
-    first(b"origin of 268", &s, 268);
-    first(b"origin of 269", &s, 269);
+    first(rt, b"origin of 268", &s, 268)?;
+    first(rt, b"origin of 269", &s, 269)
 }
 
-fn long_bundles() {
-    let mut s = io::buffer();
+fn long_bundles(rt: &impl Print) -> io::Result<()> {
+    let mut s = [0u8; 4096];
     fill(&mut s);
     normal_forms::write_bytes(b"ios:bundle-id:", &mut s, 0);
-    first(b"bundle name of 255", &s, 269);
-    first(b"bundle name of 256", &s, 270);
+    first(rt, b"bundle name of 255", &s, 269)?;
+    first(rt, b"bundle name of 256", &s, 270)
 }
 
-fn long_urls() {
-    let mut s = io::buffer();
+fn long_urls(rt: &impl Print) -> io::Result<()> {
+    let mut s = [0u8; 4096];
     fill(&mut s);
     normal_forms::write_bytes(b"https://a.b/", &mut s, 0);
-    first(b"URL of 2048", &s, 2048);
-    first(b"URL of 2049", &s, 2049);
+    first(rt, b"URL of 2048", &s, 2048)?;
+    first(rt, b"URL of 2049", &s, 2049)
 }
 
-fn main() {
-    input();
-    tail_bytes();
-    long_hosts();
-    longest_origin();
-    long_bundles();
-    long_urls();
-    forms::normal_forms();
-    forms::rooms();
-    forms::ports();
-    forms::callers();
-    forms::same_hosts();
+fn main(rt: HostRuntime) -> io::Result<()> {
+    input(&rt)?;
+    tail_bytes(&rt)?;
+    long_hosts(&rt)?;
+    longest_origin(&rt)?;
+    long_bundles(&rt)?;
+    long_urls(&rt)?;
+    forms::normal_forms(&rt)?;
+    forms::rooms(&rt)?;
+    forms::ports(&rt)?;
+    forms::callers(&rt)?;
+    forms::same_hosts(&rt)
 }
