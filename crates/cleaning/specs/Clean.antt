@@ -1,5 +1,5 @@
 -- Cleaning (document 01, "The list", last paragraphs).
-use Rattle.std.specs.Prelude.{List, ◌∷◌, ◌++◌, map, not, ℕ, length, ltb}
+use Rattle.std.specs.Prelude.{List, ◌++◌, map, not, ℕ, length, ltb}
 use Rattle.std.proofs.Math.Option.{Option, none, some}
 use Prim.Native.Char.{code}
 use Rattle.ascii.specs.Ascii.{Bytes, if◌then◌else◌, ◌when◌, ◌or_else◌, is_none, written_over, text, join_with, decimal}

@@ -1,5 +1,5 @@
 -- The fetch location (document 01, after the decision).
-use Rattle.std.specs.Prelude.{[], ◌∷◌}
+use Rattle.std.specs.Prelude.{[]}
 use Rattle.std.proofs.Math.Option.{Option, none, some, get_or}
 use Rattle.ascii.specs.Ascii.{Bytes, ◌>>=◌}
 use Rattle.fetch_record.specs.Record.{Redirect, last_location, read_record, last_hop}

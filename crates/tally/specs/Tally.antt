@@ -1,5 +1,5 @@
 -- The tally (document 01, after the decision).
-use Rattle.std.specs.Prelude.{List, ◌∷◌, ℕ, ◌+◌, length, eqb}
+use Rattle.std.specs.Prelude.{List, ℕ, ◌+◌, length, eqb}
 use Rattle.std.proofs.Math.Option.{Option, none, some}
 use Rattle.ascii.specs.Ascii.{Bytes, filter_by}
 use Rattle.refusals.specs.declared.Refusal.{Refusal}

@@ -1,5 +1,5 @@
 -- What the code of cleaning answers, in the terms of Clean.
-use Rattle.std.specs.Prelude.{◌≡◌, Bool, true, false, List, ◌++◌, map, ℕ, ◌+◌, ◌≤◌, length, drop}
+use Rattle.std.specs.Prelude.{◌≡◌, Bool, true, false, List, ◌++◌, map, ℕ, ◌+◌, ◌≤◌, length}
 use Rattle.std.proofs.Math.Option.{none, some}
 use Prim.Native.Char.{code}
 use Rattle.ascii.specs.Ascii.{Bytes, text, prefixed, join_with, decimal, written_over}
