@@ -1,5 +1,6 @@
 -- The digits that `decimal` writes, read again: a number of at most 65535 comes back, without leading zero, and no shorter text of digits
 -- has its value. Assumes nothing.
+use Rattle.std.specs.Prelude.{if◌then◌else◌}
 use mathlib.Core.Path.{◌≡◌, refl, sym, ap, ◌∙◌}
 use mathlib.Core.List.{[], ◌∷◌, ◌++◌}
 use mathlib.Core.Bool.{Bool, true, false, and-eq-true_iff}
@@ -10,7 +11,7 @@ use native.Mathlib.Omega.{arith}
 use lib.ListN.{length, length-append}
 use lib.Dec.{ltb}
 use borrow.Author.Tests.{leb-true, leb-false, le-leb}
-use Rattle.ascii.specs.Ascii.{Bytes, if◌then◌else◌, is_empty, all, is_digit, value_from, value, number16, decimal_up_to, decimal}
+use Rattle.ascii.specs.Ascii.{Bytes, is_empty, all, is_digit, value_from, value, number16, decimal_up_to, decimal}
 use Rattle.ascii.proofs.NumberLaws.{digit_between, digit_in}
 use Rattle.ascii.proofs.ListLaws.{all_append}
 

@@ -1,4 +1,5 @@
 -- Tests over whole lists, and parts of them. Assumes nothing.
+use Rattle.std.specs.Prelude.{if◌then◌else◌}
 use mathlib.Core.Path.{◌≡◌, refl, sym, ◌∙◌}
 use mathlib.Core.List.{List, [], ◌∷◌, ◌++◌, map}
 use mathlib.Core.Bool.{Bool, true, false, ◌&&◌, and-eq-true_iff}
@@ -6,7 +7,7 @@ use Prim.Native.Nat.{ℕ, ◌-◌, ◌<◌, ◌≤◌}
 use native.Mathlib.Omega.{arith}
 use lib.ListN.{length, take, drop, length-drop, drop_of_length-le, take-append-drop}
 use lib.Seq.{take_all, take-nil}
-use Rattle.ascii.specs.Ascii.{Bytes, if◌then◌else◌, all, is_empty, filter_by}
+use Rattle.ascii.specs.Ascii.{Bytes, all, is_empty, filter_by}
 
 module _ {A : Type 0} (p : A → Bool) where
   pub all_both : (x y : List A) → all p (x ++ y) ≡ (all p x && all p y)

@@ -1,16 +1,11 @@
 -- Bytes, ASCII text and the tests on them that every other crate uses.
-use Rattle.std.specs.Prelude.{List, [], ◌∷◌, ◌++◌, map, Bool, true, false, ◌&&◌, ◌||◌, not, ℕ, zero, suc, ◌+◌, ◌-◌, ◌*◌, ◌/◌, ◌%◌, length, drop, eqb, leb, ltb}
+use Rattle.std.specs.Prelude.{List, [], ◌∷◌, ◌++◌, map, Bool, true, false, ◌&&◌, ◌||◌, not, ℕ, zero, suc, ◌+◌, ◌-◌, ◌*◌, ◌/◌, ◌%◌, length, drop, eqb, leb, ltb, if◌then◌else◌}
 use Rattle.std.proofs.Math.Option.{Option, none, some}
 use Prim.Native.String.{String, [] as ε, ◌∷◌ as ◌◃◌}
 use Prim.Native.Char.{code}
 
 abbrev pub Bytes : Type 0
 Bytes = List ℕ
-
-infix 5 if◌then◌else◌
-abbrev pub if◌then◌else◌ {ℓ} : {A : Type ℓ} → Bool → A → A → A
-if true then a else b = a
-if false then a else b = b
 
 -- an optional value, and then what is made of it
 infixl 10 ◌>>=◌
@@ -57,7 +52,7 @@ any p [] = false
 any p (x ∷ xs) = p x || any p xs
 
 -- the elements that pass the test, in order
-unfoldable pub filter_by {ℓ} : {A : Type ℓ} → (A → Bool) → List A → List A
+unfoldable pub filter_by : {A : Type 0} → (A → Bool) → List A → List A
 filter_by p [] = []
 filter_by p (x ∷ xs) = if p x then x ∷ filter_by p xs else filter_by p xs
 
@@ -65,11 +60,11 @@ abbrev pub is_empty {ℓ} : {A : Type ℓ} → List A → Bool
 is_empty [] = true
 is_empty (x ∷ xs) = false
 
-unfoldable pub take_while {ℓ} : {A : Type ℓ} → (A → Bool) → List A → List A
+unfoldable pub take_while : {A : Type 0} → (A → Bool) → List A → List A
 take_while p [] = []
 take_while p (x ∷ xs) = if p x then x ∷ take_while p xs else []
 
-unfoldable pub drop_while {ℓ} : {A : Type ℓ} → (A → Bool) → List A → List A
+unfoldable pub drop_while : {A : Type 0} → (A → Bool) → List A → List A
 drop_while p [] = []
 drop_while p (x ∷ xs) = if p x then drop_while p xs else x ∷ xs
 

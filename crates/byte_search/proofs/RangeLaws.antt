@@ -1,4 +1,5 @@
 -- The first byte of a range, by blocks of 64. Assumes nothing.
+use Rattle.std.specs.Prelude.{if◌then◌else◌}
 use mathlib.Core.Path.{◌≡◌, refl, ◌∙◌}
 use mathlib.Core.Bool.{Bool, true, false}
 use mathlib.Core.List.{[], ◌∷◌}
@@ -9,7 +10,7 @@ use lib.Seq.{drop-cons, drop-drop}
 use lib.Dec.{ltb}
 use borrow.Author.Rules.{rules}
 use borrow.Author.Tests.{lt-ltb, le-ltb}
-use Rattle.ascii.specs.Ascii.{Bytes, if◌then◌else◌, take_while}
+use Rattle.ascii.specs.Ascii.{Bytes, take_while}
 use Rattle.ascii.proofs.Scan.{scan_end, scan_stop, scan_more}
 use Rattle.byte_search.specs.code.Ranges.{outside, block_end, place_in}
 

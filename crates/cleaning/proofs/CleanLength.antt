@@ -1,4 +1,5 @@
 -- The cleaned list is no longer than the body that it comes from, so refusal 9 never meets it. Assumes nothing.
+use Rattle.std.specs.Prelude.{if◌then◌else◌}
 use mathlib.Core.Path.{◌≡◌, refl}
 use mathlib.Core.List.{List, [], ◌∷◌, map}
 use mathlib.Core.Bool.{Bool, true, false}
@@ -6,7 +7,7 @@ use mathlib.Core.Option.{some}
 use Prim.Native.Nat.{ℕ, ◌+◌, ◌≤◌}
 use native.Mathlib.Omega.{arith}
 use lib.ListN.{length, length-append}
-use Rattle.ascii.specs.Ascii.{Bytes, if◌then◌else◌, is_none, filter_by, text, prefixed, join_with}
+use Rattle.ascii.specs.Ascii.{Bytes, is_none, filter_by, text, prefixed, join_with}
 use Rattle.origin.specs.Origin.{normal_form}
 use Rattle.normal_forms.proofs.NormalForms.{normal_short}
 use Rattle.trusted_list.specs.TrustedList.{selected, entries}

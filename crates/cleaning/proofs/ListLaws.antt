@@ -1,4 +1,5 @@
 -- The list around the ids: its length, its bytes, the whole call.
+use Rattle.std.specs.Prelude.{if◌then◌else◌}
 use mathlib.Core.Path.{◌≡◌, refl, sym, ap, ◌∙◌}
 use mathlib.Core.Bool.{Bool, true, false}
 use mathlib.Core.List.{◌++◌}
@@ -11,7 +12,7 @@ use lib.Dec.{leb, ltb}
 use lib.ListN.{length, take, drop, length-append}
 use lib.Seq.{length-take-le}
 use borrow.Author.Tests.{le-leb, leb-true, leb-false, lt-ltb, le-ltb}
-use Rattle.ascii.specs.Ascii.{Bytes, if◌then◌else◌, text, decimal}
+use Rattle.ascii.specs.Ascii.{Bytes, text, decimal}
 use Rattle.ascii.specs.code.Numbers.{Writes}
 use Rattle.ascii.specs.declared.decimals.Decimal.{Decimal}
 use Rattle.normal_forms.specs.code.Writing.{Wrote}

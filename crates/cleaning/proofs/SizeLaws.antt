@@ -1,4 +1,5 @@
 -- The length of the ids as they are written, entry after entry.
+use Rattle.std.specs.Prelude.{if◌then◌else◌}
 use mathlib.Core.Path.{◌≡◌, refl, sym, ap, ◌∙◌}
 use mathlib.Core.Bool.{Bool, true, false}
 use mathlib.Core.List.{List, [], ◌∷◌, ◌++◌, map}
@@ -9,7 +10,7 @@ use mir.Val.{Fits}
 use lib.Dec.{eqb}
 use lib.ListN.{length, take, length-append, length-take}
 use borrow.Author.Tests.{ne_eqb}
-use Rattle.ascii.specs.Ascii.{Bytes, if◌then◌else◌, text, prefixed, join_with}
+use Rattle.ascii.specs.Ascii.{Bytes, text, prefixed, join_with}
 use Rattle.origin.specs.Origin.{normal_form}
 use Rattle.normal_forms.proofs.NormalForms.{normal_short}
 use Rattle.json_text.specs.declared.Next.{Next}

@@ -1,8 +1,8 @@
 -- Cleaning (document 01, "The list", last paragraphs).
-use Rattle.std.specs.Prelude.{List, ◌++◌, map, not, ℕ, length, ltb}
+use Rattle.std.specs.Prelude.{List, ◌++◌, map, not, ℕ, length, ltb, if◌then◌else◌}
 use Rattle.std.proofs.Math.Option.{Option, none, some}
 use Prim.Native.Char.{code}
-use Rattle.ascii.specs.Ascii.{Bytes, if◌then◌else◌, ◌when◌, ◌or_else◌, is_none, written_over, text, join_with, decimal}
+use Rattle.ascii.specs.Ascii.{Bytes, ◌when◌, ◌or_else◌, is_none, written_over, text, join_with, decimal}
 use Rattle.suffix.specs.Suffix.{read_table}
 use Rattle.origin.specs.Origin.{begins_https, normal_form}
 use Rattle.refusals.specs.declared.Refusal.{Refusal}

@@ -1,4 +1,5 @@
 -- The place that rule 4 gives is below 65,536: the body is not over 65,536 bytes, and every entry takes some of them. Assumes nothing.
+use Rattle.std.specs.Prelude.{if◌then◌else◌}
 use mathlib.Core.Path.{◌≡◌, refl}
 use mathlib.Core.List.{List, [], ◌∷◌}
 use mathlib.Core.Bool.{Bool, true, false, not}
@@ -8,7 +9,7 @@ use native.Mathlib.Omega.{arith}
 use lib.ListN.{length}
 use lib.Dec.{eqb, ltb}
 use borrow.Author.Tests.{ltb-false}
-use Rattle.ascii.specs.Ascii.{Bytes, if◌then◌else◌, ◌>>=◌, ◌when◌, ◌or_else◌, is_none, filter_by}
+use Rattle.ascii.specs.Ascii.{Bytes, ◌>>=◌, ◌when◌, ◌or_else◌, is_none, filter_by}
 use Rattle.suffix.specs.Suffix.{read_table}
 use Rattle.matching.specs.Matching.{facet_matches}
 use Rattle.refusals.specs.declared.Refusal.{Refusal}

@@ -1,5 +1,6 @@
 -- Whatever the inputs: no web caller is allowed by rule 4 unless its private label exists and equals the AppID's, without regard
 -- to ASCII case ("allowed by a list means allowed by rule 4", document 01, "The list"). Assumes nothing.
+use Rattle.std.specs.Prelude.{if◌then◌else◌}
 use mathlib.Core.Path.{◌≡◌, refl, sym, ap, ◌∙◌}
 use mathlib.Core.List.{List, [], ◌∷◌}
 use mathlib.Core.Bool.{Bool, true, false, ◌&&◌, not, and-eq-true_iff}
@@ -7,7 +8,7 @@ use mathlib.Core.Option.{Option, none, some, map}
 use Prim.Native.Nat.{ℕ, suc}
 use native.Mathlib.Omega.{arith}
 use borrow.Author.Tests.{not-false}
-use Rattle.ascii.specs.Ascii.{Bytes, if◌then◌else◌, ◌>>=◌, is_empty, all, same, lower, same_no_case}
+use Rattle.ascii.specs.Ascii.{Bytes, ◌>>=◌, is_empty, all, same, lower, same_no_case}
 use Rattle.suffix.specs.Suffix.{private_label}
 use Rattle.suffix.proofs.Case.{private_label_lem}
 use Rattle.origin.specs.Origin.{Authority, begins_https, https_url, web_origin, is_facet}

@@ -1,7 +1,7 @@
 -- The decision, in document 01's order ("Fetch record and decision").
-use Rattle.std.specs.Prelude.{List, [], ◌∷◌, ◌&&◌, not, ℕ, suc, eqb}
+use Rattle.std.specs.Prelude.{List, [], ◌∷◌, ◌&&◌, not, ℕ, suc, eqb, if◌then◌else◌}
 use Rattle.std.proofs.Math.Option.{Option, none, some}
-use Rattle.ascii.specs.Ascii.{Bytes, if◌then◌else◌, ◌>>=◌, ◌when◌, ◌or_else◌, is_none, is_empty, same}
+use Rattle.ascii.specs.Ascii.{Bytes, ◌>>=◌, ◌when◌, ◌or_else◌, is_none, is_empty, same}
 use Rattle.suffix.specs.Suffix.{read_table}
 use Rattle.origin.specs.Origin.{begins_https, https_url, web_origin, is_facet}
 use Rattle.matching.specs.Matching.{same_host, facet_matches}

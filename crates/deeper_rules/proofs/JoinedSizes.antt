@@ -1,5 +1,6 @@
 -- A host that ends in the private label of another: what the table found for that one, joined with what the span of the deeper
 -- rules finds for this one, gives the size of its public suffix. Assumes nothing.
+use Rattle.std.specs.Prelude.{if◌then◌else◌}
 use mathlib.Core.Path.{◌≡◌, refl, sym, ap, ◌∙◌}
 use mathlib.Core.Bool.{Bool, true, false}
 use mathlib.Core.List.{List, [], ◌∷◌, ◌++◌}
@@ -10,7 +11,7 @@ use lib.ListN.{length, take, drop, length-take, length-drop}
 use lib.Dec.{eqb, ltb}
 use borrow.Author.Rules.{rules}
 use borrow.Author.Tests.{eqb-true, le-ltb, ltb-true, ltb-false}
-use Rattle.ascii.specs.Ascii.{Bytes, if◌then◌else◌, is_none, filter_by, last_of, split_at}
+use Rattle.ascii.specs.Ascii.{Bytes, is_none, filter_by, last_of, split_at}
 use Rattle.hosts.specs.Host.{labels}
 use Rattle.suffix.specs.Suffix.{Rule, matches, read_lines, read_table}
 use Rattle.hosts.specs.code.Place.{ends_at_label}

@@ -1,4 +1,5 @@
 -- What is known of a kept entry: none of the four causes holds. Assumes nothing.
+use Rattle.std.specs.Prelude.{if◌then◌else◌}
 use mathlib.Core.Path.{◌≡◌, refl}
 use mathlib.Core.List.{List}
 use mathlib.Core.Bool.{Bool, true, false, ◌||◌, not}
@@ -8,7 +9,7 @@ use native.Mathlib.Omega.{arith}
 use lib.ListN.{length}
 use lib.Dec.{ltb}
 use borrow.Author.Tests.{not-false}
-use Rattle.ascii.specs.Ascii.{Bytes, if◌then◌else◌, is_none, all}
+use Rattle.ascii.specs.Ascii.{Bytes, is_none, all}
 use Rattle.ascii.proofs.ListLaws.{filter_all, filter_id}
 use Rattle.origin.specs.Origin.{begins_https, begins_native, web_origin, is_facet}
 use Rattle.entries.specs.Causes.{is_other_label, cause, kept}

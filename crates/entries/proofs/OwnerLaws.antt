@@ -1,4 +1,5 @@
 -- The AppID, read once; its label, found once, settles cause 4 for every entry.
+use Rattle.std.specs.Prelude.{if◌then◌else◌}
 use mathlib.Core.Path.{◌≡◌, refl, sym, ap, ◌∙◌}
 use mathlib.Core.Bool.{Bool, true, false, ◌||◌}
 use mathlib.Core.List.{[], ◌∷◌}
@@ -11,7 +12,7 @@ use lib.ListN.{length, take, drop, length-drop, length-take}
 use lib.Seq.{drop-drop, take-nil}
 use lib.Dec.{leb, ltb}
 use borrow.Author.Tests.{lt-ltb, le-ltb, leb-true}
-use Rattle.ascii.specs.Ascii.{Bytes, if◌then◌else◌, ◌>>=◌, is_none}
+use Rattle.ascii.specs.Ascii.{Bytes, ◌>>=◌, is_none}
 use Rattle.hosts.specs.Host.{is_host}
 use Rattle.hosts.specs.code.Place.{ends_at_label}
 use Rattle.suffix.specs.Suffix.{read_table, private_label, or_empty}

@@ -1,4 +1,5 @@
 -- One entry: decoded, judged, and where the next one stands.
+use Rattle.std.specs.Prelude.{if◌then◌else◌}
 use mathlib.Core.Path.{◌≡◌, refl, sym, ap, ◌∙◌}
 use mathlib.Core.Bool.{Bool, true, false}
 use mathlib.Core.Option.{none, some}
@@ -10,7 +11,7 @@ use lib.Dec.{leb}
 use lib.ListN.{length, take, drop}
 use lib.Seq.{take-append_seam}
 use borrow.Author.Tests.{lt-ltb, le-ltb, le-leb, lt-leb, leb-true, leb-false}
-use Rattle.ascii.specs.Ascii.{Bytes, if◌then◌else◌}
+use Rattle.ascii.specs.Ascii.{Bytes}
 use Rattle.origin.specs.code.Parts.{part}
 use Rattle.normal_forms.specs.code.Writing.{written_at, Wrote}
 use Rattle.normal_forms.proofs.Writings.{wrote_is, wrote_length}

@@ -1,4 +1,5 @@
 -- The walk over the entries: what every consumer's loop knows, one turn on.
+use Rattle.std.specs.Prelude.{if◌then◌else◌}
 use mathlib.Core.Path.{◌≡◌, refl, sym, ap, ◌∙◌}
 use mathlib.Core.Bool.{Bool, true, false}
 use mathlib.Core.List.{List, [], ◌∷◌}
@@ -8,7 +9,7 @@ use native.Mathlib.Omega.{arith}
 use lib.Dec.{eqb, ltb}
 use lib.ListN.{length, take, drop}
 use borrow.Author.Tests.{eqb-true, eqb-false, ltb-false, le-leb}
-use Rattle.ascii.specs.Ascii.{Bytes, if◌then◌else◌, filter_by, text}
+use Rattle.ascii.specs.Ascii.{Bytes, filter_by, text}
 use Rattle.json_text.specs.Reader.{Read, got, bad, one_of, peek}
 use Rattle.json_text.specs.Lexical.{read_string}
 use Rattle.json_text.specs.code.Places.{read_at, fit, held, content}

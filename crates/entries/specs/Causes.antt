@@ -1,7 +1,7 @@
 -- Why an entry is discarded, and which entries are kept (document 01, "The list").
-use Rattle.std.specs.Prelude.{List, Bool, false, ◌||◌, not, length, ltb}
+use Rattle.std.specs.Prelude.{List, Bool, false, ◌||◌, not, length, ltb, if◌then◌else◌}
 use Rattle.std.proofs.Math.Option.{Option, none, some}
-use Rattle.ascii.specs.Ascii.{Bytes, if◌then◌else◌, is_none, both_pass, filter_by, same_no_case}
+use Rattle.ascii.specs.Ascii.{Bytes, is_none, both_pass, filter_by, same_no_case}
 use Rattle.suffix.specs.Suffix.{private_label}
 use Rattle.origin.specs.Origin.{Authority, begins_https, begins_native, web_origin, is_facet}
 use Rattle.entries.specs.AppId.{app_label}

@@ -1,4 +1,5 @@
 -- The exported fetch location: its three numbers, and the part that they name. Assumes nothing.
+use Rattle.std.specs.Prelude.{if◌then◌else◌}
 use mathlib.Core.Path.{◌≡◌, refl, ◌∙◌}
 use mathlib.Core.Bool.{Bool, true, false, ◌||◌, ◌&&◌, not}
 use Prim.Native.Nat.{ℕ, ◌+◌, ◌-◌, ◌≤◌, ◌<◌}
@@ -9,7 +10,7 @@ use lib.ListN.{length}
 use lib.Seq.{take-length}
 use lib.Dec.{ltb}
 use borrow.Author.Tests.{ltb-false}
-use Rattle.ascii.specs.Ascii.{Bytes, if◌then◌else◌, is_none}
+use Rattle.ascii.specs.Ascii.{Bytes, is_none}
 use Rattle.origin.specs.Origin.{begins_https, https_url, is_facet}
 use Rattle.origin.specs.code.Parts.{part}
 use Rattle.refusals.specs.declared.Refusal.TheVariants.{Stranger, BadAppId}

@@ -1,6 +1,6 @@
 -- The fetch location as three numbers: which lent slice, where its part starts, and how long it is (document 01, after the decision).
-use Rattle.std.specs.Prelude.{[], ℕ, length, take, drop, eqb}
-use Rattle.ascii.specs.Ascii.{Bytes, if◌then◌else◌}
+use Rattle.std.specs.Prelude.{[], ℕ, length, take, drop, eqb, if◌then◌else◌}
+use Rattle.ascii.specs.Ascii.{Bytes}
 use Rattle.decision.specs.Location.{Source, nowhere, the_app_id, redirect}
 
 -- 0 none, 1 the AppID, 2 the text

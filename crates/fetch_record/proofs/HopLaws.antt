@@ -1,4 +1,5 @@
 -- Hop by hop, refusal 5 before 6; what record and text settle; the last Location. Assumes nothing.
+use Rattle.std.specs.Prelude.{if◌then◌else◌}
 use mathlib.Core.Path.{◌≡◌, refl, sym, ap, ◌∙◌}
 use mathlib.Core.Bool.{Bool, true, false, ◌&&◌, not, and-eq-true_iff, and-true}
 use mathlib.Core.List.{List, [], ◌∷◌, ◌++◌}
@@ -10,7 +11,7 @@ use native.Mathlib.Omega.{arith}
 use lib.ListN.{length, take, drop, length-append}
 use lib.Seq.{drop_at}
 use borrow.Author.Tests.{leb-true}
-use Rattle.ascii.specs.Ascii.{Bytes, if◌then◌else◌, ◌or_else◌, is_none, all, last_of}
+use Rattle.ascii.specs.Ascii.{Bytes, ◌or_else◌, is_none, all, last_of}
 use Rattle.ascii.proofs.ListLaws.{all_both}
 use Rattle.origin.specs.Origin.{https_url}
 use Rattle.origin.specs.code.Parts.{Reads, authority_in}

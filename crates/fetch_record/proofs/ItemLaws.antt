@@ -1,4 +1,5 @@
 -- The bodies of items. Assumes nothing.
+use Rattle.std.specs.Prelude.{if◌then◌else◌}
 use mathlib.Core.Path.{◌≡◌}
 use mathlib.Core.Bool.{Bool, true, false, ◌&&◌, and-false}
 use mathlib.Core.Option.{none, some}
@@ -8,7 +9,7 @@ use lib.ListN.{length, get_or, take}
 use lib.Seq.{get_or-take, length-take-le}
 use lib.Dec.{eqb, leb}
 use borrow.Author.Tests.{lt-leb, le-leb}
-use Rattle.ascii.specs.Ascii.{Bytes, if◌then◌else◌, between}
+use Rattle.ascii.specs.Ascii.{Bytes, between}
 use Rattle.fetch_record.specs.Record.{Redirect, number, read_redirect, read_answer}
 use Rattle.fetch_record.specs.code.Meaning.{redirect_of, answer_of, redirect_read, answer_read, redirect_in}
 use Rattle.fetch_record.specs.declared.item.Redirect.{Redirect as RedirectItem}

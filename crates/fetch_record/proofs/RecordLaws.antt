@@ -1,4 +1,5 @@
 -- The redirects at the front of a record, and what stands behind them. Assumes nothing.
+use Rattle.std.specs.Prelude.{if◌then◌else◌}
 use mathlib.Core.Path.{◌≡◌, refl, sym, ap, ◌∙◌}
 use mathlib.Core.Bool.{Bool, true, false, ◌&&◌, and-false, and-true}
 use mathlib.Core.List.{List, [], ◌∷◌, ◌++◌, append-nil, append_assoc}
@@ -12,7 +13,7 @@ use lib.Dec.{eqb}
 use mir.Syntax.{w64}
 use mir.Val.{Fits}
 use borrow.Author.Tests.{eq-eqb, ne_eqb, eqb-true, lt-leb, le-leb}
-use Rattle.ascii.specs.Ascii.{Bytes, if◌then◌else◌, ◌>>=◌, all, is_empty, begins_with}
+use Rattle.ascii.specs.Ascii.{Bytes, ◌>>=◌, all, is_empty, begins_with}
 use Rattle.ascii.proofs.ListLaws.{all_append}
 use Rattle.fetch_record.specs.Record.{Redirect, Answer, Fetched, read_redirect, read_answer, read_end, in_front, read_items, in_text, read_record}
 use Rattle.fetch_record.specs.code.Meaning.{redirect_of, redirect_read, answer_read, redirect_in, redirect_at, redirects_in, Placed, end_read, behind, front_read, FrontPlaced, no_front, front, Counts, layout_read, no_layout, without, with_answer, Lays}

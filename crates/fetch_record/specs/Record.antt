@@ -1,8 +1,8 @@
 -- The fetch record (document 01, "Fetch record and decision").
 use mathlib.Core.List.{List, [], ◌∷◌, map, head?}
-use Rattle.std.specs.Prelude.{Bool, ◌&&◌, not, ℕ, zero, suc, ◌+◌, ◌*◌, length, take, drop, get_or, eqb, leb}
+use Rattle.std.specs.Prelude.{Bool, ◌&&◌, not, ℕ, zero, suc, ◌+◌, ◌*◌, length, take, drop, get_or, eqb, leb, if◌then◌else◌}
 use Rattle.std.proofs.Math.Option.{Option, none, some}
-use Rattle.ascii.specs.Ascii.{Bytes, if◌then◌else◌, ◌>>=◌, is_none, all, is_empty, last_of, between, begins_with}
+use Rattle.ascii.specs.Ascii.{Bytes, ◌>>=◌, is_none, all, is_empty, last_of, between, begins_with}
 use Rattle.origin.specs.Origin.{https_url}
 use Rattle.refusals.specs.declared.Refusal.{Refusal}
 use Rattle.refusals.specs.declared.Refusal.TheVariants.{OpenRedirect, BadLocation}

@@ -1,4 +1,5 @@
 -- What is written of a head. Assumes nothing.
+use Rattle.std.specs.Prelude.{if◌then◌else◌}
 use mathlib.Core.Path.{◌≡◌, refl}
 use mathlib.Core.Bool.{Bool, true, false, ◌&&◌}
 use mathlib.Core.Option.{Option, none, some}
@@ -6,7 +7,7 @@ use Prim.Native.Nat.{ℕ, ◌≤◌}
 use native.Mathlib.Omega.{arith}
 use lib.ListN.{length}
 use lib.Dec.{leb}
-use Rattle.ascii.specs.Ascii.{Bytes, if◌then◌else◌}
+use Rattle.ascii.specs.Ascii.{Bytes}
 use Rattle.refusals.specs.declared.Refusal.TheVariants.{Full}
 use Rattle.response_head.specs.ResponseHead.{Head, redirect, answer, read_head}
 use Rattle.response_head.proofs.HeadBounds.{redirect_bounds}

@@ -1,7 +1,7 @@
 -- The record item that a response head makes, and its Location text (document 02, S-2).
-use Rattle.std.specs.Prelude.{[], ◌∷◌, ◌++◌, Bool, true, false, ◌&&◌, ℕ, ◌/◌, ◌%◌, length, leb}
+use Rattle.std.specs.Prelude.{[], ◌∷◌, ◌++◌, Bool, true, false, ◌&&◌, ℕ, ◌/◌, ◌%◌, length, leb, if◌then◌else◌}
 use Rattle.std.proofs.Math.Option.{Option, none, some}
-use Rattle.ascii.specs.Ascii.{Bytes, if◌then◌else◌, written_over}
+use Rattle.ascii.specs.Ascii.{Bytes, written_over}
 use Rattle.refusals.specs.declared.Refusal.{Refusal}
 use Rattle.refusals.specs.declared.Refusal.TheVariants.{Full, BadHead}
 use Rattle.response_head.specs.ResponseHead.{Head, redirect, answer, read_head}

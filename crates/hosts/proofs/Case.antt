@@ -1,4 +1,5 @@
 -- Hosts and their labels in lower case.
+use Rattle.std.specs.Prelude.{if◌then◌else◌}
 use mathlib.Core.Path.{◌≡◌, refl, sym, ap, ap₂, ◌∙◌}
 use mathlib.Core.List.{List, [], ◌∷◌, ◌++◌, map, map-append}
 use mathlib.Core.Bool.{Bool, true, false, ◌&&◌, ◌||◌, and-eq-true_iff}
@@ -7,7 +8,7 @@ use native.Mathlib.Omega.{arith}
 use lib.ListN.{take, drop, length-map}
 use lib.Dec.{eqb, leb}
 use borrow.Author.Tests.{leb-true, le-leb, lt-leb, ne_eqb}
-use Rattle.ascii.specs.Ascii.{Bytes, if◌then◌else◌, all, last_of, join_head, split_at, prefixed, join_with, is_digit, is_upper, is_letter, lower_byte, lower, same, text}
+use Rattle.ascii.specs.Ascii.{Bytes, all, last_of, join_head, split_at, prefixed, join_with, is_digit, is_upper, is_letter, lower_byte, lower, same, text}
 use Rattle.ascii.proofs.Compare.{length_lower}
 use Rattle.hosts.specs.Host.{labels, is_label_byte, is_shaped, is_label, is_host, is_address}
 

@@ -1,4 +1,5 @@
 -- An end of a host in bytes that begins at a label is its last labels. Assumes nothing.
+use Rattle.std.specs.Prelude.{if◌then◌else◌}
 use mathlib.Core.Path.{◌≡◌, refl, sym, ap, ◌∙◌}
 use mathlib.Core.Bool.{Bool, true, false, ◌&&◌, and-eq-true_iff}
 use mathlib.Core.List.{List, [], ◌∷◌, ◌++◌, map}
@@ -8,7 +9,7 @@ use lib.ListN.{length, get_or, take, drop, length-drop, length-append, length-ma
 use lib.Seq.{drop_at, split_at as split_at_nth}
 use lib.Dec.{eqb, leb}
 use borrow.Author.Tests.{eq-eqb, ne_eqb, eqb-true, le-leb}
-use Rattle.ascii.specs.Ascii.{Bytes, if◌then◌else◌, last_of, join_head, split_at, join_with, lower, same, same_no_case}
+use Rattle.ascii.specs.Ascii.{Bytes, last_of, join_head, split_at, join_with, lower, same, same_no_case}
 use Rattle.ascii.proofs.Compare.{length_lower, same_eq}
 use Rattle.ascii.proofs.Split.{Parts, split_parts, split_some, head_drop, head_length, join_split}
 use Rattle.hosts.specs.Host.{labels}

@@ -1,11 +1,12 @@
 -- The ways through a string.
+use Rattle.std.specs.Prelude.{if◌then◌else◌}
 use mathlib.Core.Path.{◌≡◌, refl, ap, sym, ◌∙◌}
 use mathlib.Core.Bool.{Bool, true, false}
 use mathlib.Core.List.{[], ◌∷◌, ◌++◌}
 use Prim.Native.Nat.{ℕ, suc, ◌+◌, ◌-◌, ◌≤◌, ◌<◌}
 use native.Mathlib.Omega.{arith}
 use lib.ListN.{length, drop, length-drop}
-use Rattle.ascii.specs.Ascii.{Bytes, if◌then◌else◌, between, among}
+use Rattle.ascii.specs.Ascii.{Bytes, between, among}
 use Rattle.json_text.specs.Reader.{Read, got, bad, Reader, more, behind, ◌>>=◌, satisfy, fail, peek, ifNext◌then◌else◌, lead◌to◌then◌else◌, mapped, as_written, verbatim, counted}
 use Rattle.json_text.specs.Utf8.{utf8_tail, multibyte_char, encode_utf8}
 use Rattle.json_text.specs.Lexical.{unescaped, escaped, read_char, read_chars, read_string}

@@ -1,4 +1,5 @@
 -- Decoding a string into a lent array.
+use Rattle.std.specs.Prelude.{if◌then◌else◌}
 use mathlib.Core.Path.{◌≡◌, refl, ap, sym, ◌∙◌}
 use mathlib.Core.Bool.{Bool, true, false}
 use mathlib.Core.List.{[], ◌∷◌, ◌++◌, append_assoc, append-nil}
@@ -10,7 +11,7 @@ use borrow.Author.Tests.{le-leb, lt-leb, lt-ltb, le-ltb, ltb-false, leb-true, le
 use lib.Dec.{leb, ltb}
 use lib.ListN.{length, get_or, take, drop, set, length-set, length-append, length-take, length-drop, drop_of_length-le}
 use lib.Seq.{drop-cons, take-suc-set, length-take-le, take-nil}
-use Rattle.ascii.specs.Ascii.{Bytes, if◌then◌else◌, same}
+use Rattle.ascii.specs.Ascii.{Bytes, same}
 use Rattle.json_text.specs.Reader.{Read, got, bad, Reader, more, mapped, as_written, verbatim}
 use Rattle.json_text.specs.Utf8.{encode_utf8}
 use Rattle.json_text.specs.Lexical.{unescaped, escaped, read_char, read_chars, read_string}

@@ -1,4 +1,5 @@
 -- A string without escapes: its bytes as they stand.
+use Rattle.std.specs.Prelude.{if◌then◌else◌}
 use mathlib.Core.Path.{◌≡◌, refl, ap, sym, ◌∙◌}
 use mathlib.Core.Bool.{Bool, true, false, not, and-false, and-eq-true_iff}
 use mathlib.Core.List.{[], ◌∷◌, ◌++◌}
@@ -9,7 +10,7 @@ use borrow.Author.Tests.{eqb-true, eqb-false, leb-true, leb-false, ne_eqb, eq-eq
 use lib.Dec.{eqb, leb}
 use lib.ListN.{length, get_or, take, drop}
 use lib.Seq.{drop-cons, drop-drop, take-add}
-use Rattle.ascii.specs.Ascii.{Bytes, if◌then◌else◌, between}
+use Rattle.ascii.specs.Ascii.{Bytes, between}
 use Rattle.json_text.specs.Reader.{Read, got, bad, Reader, more, behind, ◌>>=◌, ◌>>◌, give, fail, peek, satisfy, byte_range, count_while, many, lead◌to◌then◌else◌, mapped}
 use Rattle.json_text.specs.Utf8.{utf8_tail, then_tail, then_tails, multibyte_char}
 use Rattle.json_text.specs.Lexical.{unescaped, read_char, read_chars, read_string}

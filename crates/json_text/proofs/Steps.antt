@@ -1,4 +1,5 @@
 -- The steps of a reader, at places of a text.
+use Rattle.std.specs.Prelude.{if◌then◌else◌}
 use mir.Syntax.{w64}
 use mir.Val.{Fits}
 use mathlib.Core.Path.{◌≡◌, refl, ap}
@@ -13,7 +14,7 @@ use types.Run.{OneOf}
 use lib.Dec.{eqb, leb}
 use lib.ListN.{length, get_or, drop, drop_of_length-le}
 use lib.Seq.{drop-cons, drop-drop}
-use Rattle.ascii.specs.Ascii.{Bytes, if◌then◌else◌, between, among}
+use Rattle.ascii.specs.Ascii.{Bytes, between, among}
 use Rattle.json_text.specs.Reader.{Read, got, bad, Reader, more, behind, ◌>>=◌, give, fail, peek, satisfy, ifNext◌then◌else◌, lead◌to◌then◌else◌, either_read, ◌or◌, mapped, ◌giving◌, as_written, verbatim, counted}
 use Rattle.json_text.specs.code.Places.{Peeked, read_at, place_of, point_of}
 use Rattle.json_text.specs.declared.Next.{Next}

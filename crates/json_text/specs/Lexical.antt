@@ -1,8 +1,8 @@
 -- The lexical grammar of JSON (RFC 8259, sections 2, 6 and 7), with its ABNF above each definition.
-use Rattle.std.specs.Prelude.{[], ◌++◌, Bool, ◌||◌, ℕ, zero, suc, ◌+◌, ◌-◌, ◌*◌, eqb}
+use Rattle.std.specs.Prelude.{[], ◌++◌, Bool, ◌||◌, ℕ, zero, suc, ◌+◌, ◌-◌, ◌*◌, eqb, if◌then◌else◌}
 use Rattle.std.proofs.Math.Option.{Option, none, some}
 use Prim.Native.Char.{code}
-use Rattle.ascii.specs.Ascii.{Bytes, if◌then◌else◌, between, is_digit, text}
+use Rattle.ascii.specs.Ascii.{Bytes, between, is_digit, text}
 use Rattle.json_text.specs.Reader.{Reader, ◌>>=◌, ◌>>◌, give, fail, peek, satisfy, one_byte, one_of, byte_range, many, word, ifNext◌then◌else◌, lead◌to◌then◌else◌, ◌or◌, optional, ◌giving◌, verbatim, counted}
 use Rattle.json_text.specs.Utf8.{multibyte_char, encode_utf8}
 

@@ -1,7 +1,7 @@
 -- Readers: what stands at the front of a text, and how many bytes it takes up.
-use Rattle.std.specs.Prelude.{[], ◌∷◌, Bool, ℕ, suc, ◌+◌, length, take, drop}
+use Rattle.std.specs.Prelude.{[], ◌∷◌, Bool, ℕ, suc, ◌+◌, length, take, drop, if◌then◌else◌}
 use Rattle.std.proofs.Math.Option.{Option, none, some}
-use Rattle.ascii.specs.Ascii.{Bytes, if◌then◌else◌, is_empty, between, among}
+use Rattle.ascii.specs.Ascii.{Bytes, is_empty, between, among}
 
 -- a value, and how many bytes it takes up; or the bytes are wrong
 pub data Read (A : Type 0) : Type 0 where

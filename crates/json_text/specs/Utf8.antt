@@ -1,6 +1,6 @@
 -- UTF-8 (RFC 3629).
-use Rattle.std.specs.Prelude.{[], ◌∷◌, Bool, true, false, ℕ, zero, suc, ◌+◌, ◌/◌, ◌%◌, leb, ltb}
-use Rattle.ascii.specs.Ascii.{Bytes, if◌then◌else◌, between}
+use Rattle.std.specs.Prelude.{[], ◌∷◌, Bool, true, false, ℕ, zero, suc, ◌+◌, ◌/◌, ◌%◌, leb, ltb, if◌then◌else◌}
+use Rattle.ascii.specs.Ascii.{Bytes, between}
 use Rattle.json_text.specs.Reader.{Reader, ◌>>◌, fail, byte_range, lead◌to◌then◌else◌}
 
 -- UTF8-tail = %x80-BF

@@ -1,4 +1,5 @@
 -- Texts that are written, read again.
+use Rattle.std.specs.Prelude.{if◌then◌else◌}
 use mathlib.Core.Path.{◌≡◌, refl, sym, ap, ◌∙◌}
 use mathlib.Core.List.{List, [], ◌∷◌, ◌++◌, append_assoc, append-nil}
 use mathlib.Core.Bool.{Bool, true, false, ◌&&◌, not, and-eq-true_iff}
@@ -10,7 +11,7 @@ use lib.ListN.{length, length-append}
 use lib.Seq.{drop-append_seam, take-append_seam}
 use lib.Dec.{eqb, leb}
 use borrow.Author.Tests.{leb-true, leb-false, eq-eqb, ne_eqb, eqb-true}
-use Rattle.ascii.specs.Ascii.{Bytes, if◌then◌else◌, between, among, is_digit}
+use Rattle.ascii.specs.Ascii.{Bytes, between, among, is_digit}
 use Rattle.json_text.specs.Reader.{got, bad, Reader, more, behind, ◌>>=◌, ◌>>◌, give, end_of_text, peek, satisfy, one_of, byte_range, count_while, many, ifNext◌then◌else◌, lead◌to◌then◌else◌, either_read, ◌or◌, mapped, ◌giving◌, as_written, verbatim, counted}
 use Rattle.json_text.specs.Lexical.{is_blank, ws, int, frac, exp, read_number, unescaped, read_char, read_chars, read_string}
 use Rattle.json_values.specs.Json.{Json, number, string, array, object, to_items, to_members, items, listed, read_member, read_array, read_object, value_of, read_value, read_text, value_read, read_json}

@@ -1,4 +1,5 @@
 -- A text is at least as long as what is read from it: the length bound behind the re-reading theorem.
+use Rattle.std.specs.Prelude.{if◌then◌else◌}
 use mathlib.Core.Path.{◌≡◌, refl, ap}
 use mathlib.Core.List.{List, [], ◌∷◌, ◌++◌}
 use mathlib.Core.Bool.{Bool, true, false}
@@ -7,7 +8,7 @@ use Prim.Native.Nat.{ℕ, zero, suc, ◌+◌, ◌≤◌, ◌<◌, max, suc-le-su
 use native.Mathlib.Omega.{arith}
 use lib.ListN.{length, drop, length-append, length-drop, length-take}
 use lib.Dec.{eqb, ltb}
-use Rattle.ascii.specs.Ascii.{Bytes, if◌then◌else◌, is_empty, between, among, is_digit, text}
+use Rattle.ascii.specs.Ascii.{Bytes, is_empty, between, among, is_digit, text}
 use Rattle.json_text.specs.Reader.{Read, got, bad, Reader, more, behind, ◌>>=◌, ◌>>◌, give, fail, end_of_text, peek, satisfy, one_byte, one_of, byte_range, count_while, many, word, ifNext◌then◌else◌, lead◌to◌then◌else◌, either_read, ◌or◌, mapped, ◌giving◌, as_written, verbatim, counted}
 use Rattle.json_text.specs.code.Places.{read_at}
 use Rattle.json_text.specs.Utf8.{then_tail, then_tails, multibyte_char, encode_utf8}

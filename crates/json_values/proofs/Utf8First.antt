@@ -1,4 +1,5 @@
 -- Testing UTF-8 inside strings is the same as testing the whole text first.
+use Rattle.std.specs.Prelude.{if◌then◌else◌}
 use mathlib.Core.Path.{◌≡◌, refl, sym, ap, ◌∙◌}
 use mathlib.Core.List.{[], ◌∷◌, ◌++◌}
 use mathlib.Core.Bool.{Bool, true, false}
@@ -8,7 +9,7 @@ use native.Mathlib.Omega.{arith}
 use borrow.Author.Tests.{le-leb, lt-leb, leb-true, leb-false, ne_eqb}
 use lib.ListN.{length, take, drop, length-drop}
 use lib.Dec.{leb}
-use Rattle.ascii.specs.Ascii.{Bytes, if◌then◌else◌, between, among}
+use Rattle.ascii.specs.Ascii.{Bytes, between, among}
 use Rattle.json_text.specs.Reader.{Read, got, bad, Reader, more, behind, ◌>>=◌, ◌>>◌, give, fail, peek, satisfy, one_of, byte_range, ifNext◌then◌else◌, lead◌to◌then◌else◌, mapped, ◌giving◌, as_written, verbatim, counted}
 use Rattle.json_text.specs.Utf8.{then_tail, then_tails, multibyte_char, Due, due, wrong, lead_byte, next_byte, utf8_from, is_utf8}
 use Rattle.json_text.specs.Lexical.{ws, unescaped, read_char, read_chars, read_string}

@@ -1,4 +1,5 @@
 -- A text that is read is UTF-8, byte by byte (RFC 3629): the strings' own tests suffice.
+use Rattle.std.specs.Prelude.{if◌then◌else◌}
 use mathlib.Core.Path.{◌≡◌, refl, sym, ◌∙◌}
 use mathlib.Core.List.{[], ◌∷◌, ◌++◌}
 use mathlib.Core.Bool.{Bool, true, false, ◌&&◌, ◌||◌}
@@ -9,7 +10,7 @@ use borrow.Author.Tests.{le-leb, lt-leb, leb-true, eqb-true}
 use lib.ListN.{length, drop}
 use lib.Seq.{drop-drop}
 use lib.Dec.{eqb, leb}
-use Rattle.ascii.specs.Ascii.{Bytes, if◌then◌else◌, is_empty, between, among, is_digit, text}
+use Rattle.ascii.specs.Ascii.{Bytes, is_empty, between, among, is_digit, text}
 use Rattle.json_text.specs.Reader.{Read, got, bad, Reader, more, behind, ◌>>=◌, ◌>>◌, give, fail, end_of_text, peek, satisfy, one_byte, one_of, byte_range, count_while, many, word, ifNext◌then◌else◌, lead◌to◌then◌else◌, either_read, ◌or◌, mapped, ◌giving◌, as_written, verbatim, counted}
 use Rattle.json_text.specs.Utf8.{then_tail, then_tails, multibyte_char, encode_utf8, Due, due, lead_byte, next_byte, utf8_from, is_utf8}
 use Rattle.json_text.specs.Lexical.{is_blank, ws, digits, int, frac, exp, read_number, unescaped, hex_value, hex_digit, hex4, low_after, code_point, escaped, read_char, read_chars, read_string}

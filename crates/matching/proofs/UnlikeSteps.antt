@@ -1,4 +1,5 @@
 -- A quick test that two identifiers do not match.
+use Rattle.std.specs.Prelude.{if◌then◌else◌}
 use mathlib.Core.Path.{◌≡◌, refl, sym, ap, ◌∙◌}
 use mathlib.Core.Bool.{Bool, true, false, ◌&&◌, ◌||◌, not, and-eq-true_iff}
 use mathlib.Core.List.{[], ◌∷◌}
@@ -10,7 +11,7 @@ use lib.ListN.{length, get_or, drop, drop_of_length-le}
 use lib.Seq.{drop-cons}
 use lib.Dec.{eqb}
 use borrow.Author.Tests.{eq-eqb, ne_eqb, eqb-true}
-use Rattle.ascii.specs.Ascii.{Bytes, if◌then◌else◌, ◌>>=◌, is_empty, take_while, drop_while, is_digit, is_upper, is_letter, lower_byte, lower, same, same_no_case, begins_with, text}
+use Rattle.ascii.specs.Ascii.{Bytes, ◌>>=◌, is_empty, take_while, drop_while, is_digit, is_upper, is_letter, lower_byte, lower, same, same_no_case, begins_with, text}
 use Rattle.ascii.proofs.Compare.{same_eq}
 use Rattle.ascii.proofs.OptionLaws.{Holds, holds}
 use Rattle.hosts.specs.Host.{is_host, is_label_byte}

@@ -1,7 +1,7 @@
 -- When a caller matches the AppID or an entry (document 01, "Fetch record and decision", rules 3 and 4).
-use Rattle.std.specs.Prelude.{Bool, ◌&&◌, eqb}
+use Rattle.std.specs.Prelude.{Bool, ◌&&◌, eqb, if◌then◌else◌}
 use Rattle.std.proofs.Math.Option.{Option}
-use Rattle.ascii.specs.Ascii.{Bytes, if◌then◌else◌, is_none, both_pass, same, same_no_case}
+use Rattle.ascii.specs.Ascii.{Bytes, is_none, both_pass, same, same_no_case}
 use Rattle.origin.specs.Origin.{Authority, effective_port, web_origin}
 
 -- rule 3: both have a host, and the two are equal, ports aside

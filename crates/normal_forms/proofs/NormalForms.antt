@@ -1,4 +1,5 @@
 -- Normal forms: read again, no longer, plain ASCII. Assumes nothing.
+use Rattle.std.specs.Prelude.{if◌then◌else◌}
 use mathlib.Core.Path.{◌≡◌, refl, sym, ap, ◌∙◌}
 use mathlib.Core.List.{[], ◌∷◌, ◌++◌, append-nil}
 use mathlib.Core.Bool.{Bool, true, false, ◌||◌, and-eq-true_iff}
@@ -7,7 +8,7 @@ use Prim.Native.Nat.{ℕ, ◌+◌, ◌≤◌}
 use native.Mathlib.Omega.{arith}
 use lib.ListN.{length, length-append}
 use borrow.Author.Tests.{le-leb}
-use Rattle.ascii.specs.Ascii.{Bytes, if◌then◌else◌, is_empty, all, take_while, drop_while, is_digit, is_upper, is_letter, same, lower_byte, lower, begins_with, begins_with_no_case, text, value, value_from}
+use Rattle.ascii.specs.Ascii.{Bytes, is_empty, all, take_while, drop_while, is_digit, is_upper, is_letter, same, lower_byte, lower, begins_with, begins_with_no_case, text, value, value_from}
 use Rattle.ascii.proofs.Compare.{length_lower, same_eq}
 use Rattle.hosts.specs.Host.{is_host, is_label_byte}
 use Rattle.hosts.proofs.Case.{is_byte, is_label_byte_lem, lower_lower, map_map_eq, all_lower, is_host_lem}

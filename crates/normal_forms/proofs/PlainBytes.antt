@@ -1,4 +1,5 @@
 -- The normal form of a facet is printable ASCII that a JSON string holds as it is. Assumes nothing.
+use Rattle.std.specs.Prelude.{if◌then◌else◌}
 use mathlib.Core.Path.{◌≡◌, refl, sym, ap, ◌∙◌}
 use mathlib.Core.List.{[], ◌++◌}
 use mathlib.Core.Bool.{Bool, true, false, ◌&&◌, ◌||◌, and-eq-true_iff}
@@ -8,7 +9,7 @@ use native.Mathlib.Omega.{arith}
 use lib.ListN.{length, drop}
 use lib.Dec.{eqb}
 use borrow.Author.Tests.{ne_eqb}
-use Rattle.ascii.specs.Ascii.{Bytes, if◌then◌else◌, is_empty, all, between, is_digit, is_upper, is_letter, same, lower, begins_with, text}
+use Rattle.ascii.specs.Ascii.{Bytes, is_empty, all, between, is_digit, is_upper, is_letter, same, lower, begins_with, text}
 use Rattle.ascii.proofs.Bytes.{implies, each, passes, digit_small, letter_small}
 use Rattle.ascii.proofs.ListLaws.{all_append, all_weaker}
 use Rattle.hosts.specs.Host.{is_label_byte}

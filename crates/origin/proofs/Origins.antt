@@ -1,4 +1,5 @@
 -- What is known of a text that is read as a web origin or an HTTPS URL, and of native identities. Assumes nothing.
+use Rattle.std.specs.Prelude.{if◌then◌else◌}
 use mathlib.Core.Path.{◌≡◌, refl, sym, ap, ap₂}
 use mathlib.Core.List.{[], ◌∷◌, ◌++◌}
 use mathlib.Core.Bool.{Bool, true, false, ◌&&◌, ◌||◌, not, or-true, and-eq-true_iff}
@@ -8,7 +9,7 @@ use native.Mathlib.Omega.{arith}
 use lib.ListN.{length, drop, length-append, length-drop}
 use lib.Dec.{eqb, leb}
 use borrow.Author.Tests.{eqb-true, leb-true}
-use Rattle.ascii.specs.Ascii.{Bytes, if◌then◌else◌, ◌>>=◌, ◌when◌, is_none, is_empty, all, take_while, drop_while, between, is_digit, is_upper, same, lower_byte, lower, begins_with, begins_with_no_case, text, value, number16}
+use Rattle.ascii.specs.Ascii.{Bytes, ◌>>=◌, ◌when◌, is_none, is_empty, all, take_while, drop_while, between, is_digit, is_upper, same, lower_byte, lower, begins_with, begins_with_no_case, text, value, number16}
 use Rattle.ascii.proofs.Compare.{length_lower}
 use Rattle.ascii.proofs.OptionLaws.{Holds, holds}
 use Rattle.ascii.proofs.Scan.{while_all, while_rest, while_length}

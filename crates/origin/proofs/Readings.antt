@@ -1,4 +1,5 @@
 -- Where the parts of a web origin or an HTTPS URL stand. Assumes nothing.
+use Rattle.std.specs.Prelude.{if◌then◌else◌}
 use mathlib.Core.Path.{◌≡◌, refl, sym, ◌∙◌}
 use mathlib.Core.Bool.{Bool, true, false, ◌&&◌, not, and-false}
 use mathlib.Core.List.{[], ◌∷◌}
@@ -10,7 +11,7 @@ use lib.ListN.{length, get_or, take, drop, drop_of_length-le}
 use lib.Seq.{drop-cons}
 use lib.Dec.{leb}
 use borrow.Author.Tests.{ne_eqb, lt-leb, le-leb, leb-true, leb-false}
-use Rattle.ascii.specs.Ascii.{Bytes, if◌then◌else◌, ◌when◌, is_empty, all, take_while, is_digit, begins_with, begins_with_no_case, text, value, number16}
+use Rattle.ascii.specs.Ascii.{Bytes, ◌when◌, is_empty, all, take_while, is_digit, begins_with, begins_with_no_case, text, value, number16}
 use Rattle.ascii.specs.code.Numbers.{number_of}
 use Rattle.ascii.specs.declared.decimals.Number.{Number}
 use Rattle.ascii.specs.declared.decimals.Number.TheVariants.{Value, Malformed as NoNumber}

@@ -1,4 +1,5 @@
 -- Single steps: bytes, prefixes, tails and native identities. Assumes nothing.
+use Rattle.std.specs.Prelude.{if◌then◌else◌}
 use mathlib.Core.Path.{◌≡◌, refl, ap, sym, ◌∙◌}
 use mathlib.Core.Bool.{Bool, true, false, ◌&&◌, ◌||◌, not, and-false, or-true, and-eq-true_iff}
 use mathlib.Core.List.{[], ◌∷◌}
@@ -8,7 +9,7 @@ use native.Mathlib.Omega.{arith}
 use lib.ListN.{length, get_or, drop, length-drop}
 use lib.Dec.{eqb, leb, ltb}
 use borrow.Author.Tests.{eq-eqb, ne_eqb, lt-leb, le-leb, lt-ltb, le-ltb, eqb-true, eqb-false}
-use Rattle.ascii.specs.Ascii.{Bytes, if◌then◌else◌, all, take_while, is_digit, is_letter, is_upper, same, begins_with, begins_with_no_case, text, number16}
+use Rattle.ascii.specs.Ascii.{Bytes, all, take_while, is_digit, is_letter, is_upper, same, begins_with, begins_with_no_case, text, number16}
 use Rattle.ascii.specs.Class.{class_of, Classifies}
 use Rattle.ascii.specs.code.Numbers.{number_of}
 use Rattle.ascii.specs.declared.decimals.Number.{Number}

@@ -1,8 +1,8 @@
 -- Web origins, native identities, facets, HTTPS URLs and normal forms (document 01, "Identifiers").
-use Rattle.std.specs.Prelude.{[], ◌++◌, Bool, ◌&&◌, ◌||◌, not, ℕ, length, drop, eqb, leb}
+use Rattle.std.specs.Prelude.{[], ◌++◌, Bool, ◌&&◌, ◌||◌, not, ℕ, length, drop, eqb, leb, if◌then◌else◌}
 use Rattle.std.proofs.Math.Option.{Option, none, some}
 use Prim.Native.Char.{code}
-use Rattle.ascii.specs.Ascii.{Bytes, if◌then◌else◌, ◌>>=◌, is_none, all, is_empty, take_while, drop_while, between, is_digit, is_letter, lower, same, begins_with, begins_with_no_case, text, value, number16}
+use Rattle.ascii.specs.Ascii.{Bytes, ◌>>=◌, is_none, all, is_empty, take_while, drop_while, between, is_digit, is_letter, lower, same, begins_with, begins_with_no_case, text, value, number16}
 use Rattle.hosts.specs.Host.{is_host, is_label_byte}
 
 -- `https://` is read in either ASCII case

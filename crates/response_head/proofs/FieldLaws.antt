@@ -1,4 +1,5 @@
 -- One status line, one field line, one field more. Assumes nothing.
+use Rattle.std.specs.Prelude.{if◌then◌else◌}
 use mathlib.Core.Path.{◌≡◌, refl, sym, ◌∙◌}
 use mathlib.Core.Bool.{Bool, true, false, ◌&&◌, not, and-true, and-false, and-eq-true_iff}
 use mathlib.Core.List.{[], ◌∷◌, ◌++◌}
@@ -10,7 +11,7 @@ use lib.Seq.{drop-cons, drop-drop, take-take, length-take-le}
 use lib.Dec.{eqb, leb}
 use borrow.Author.Rules.{rules}
 use borrow.Author.Tests.{ne_eqb, eqb-true, leb-true}
-use Rattle.ascii.specs.Ascii.{Bytes, if◌then◌else◌, ◌when◌, all, is_empty, take_while, drop_while, among, is_digit, is_letter, is_upper, same, same_no_case, begins_with, begins_by, text, number16}
+use Rattle.ascii.specs.Ascii.{Bytes, ◌when◌, all, is_empty, take_while, drop_while, among, is_digit, is_letter, is_upper, same, same_no_case, begins_with, begins_by, text, number16}
 use Rattle.ascii.specs.code.Numbers.{number_of}
 use Rattle.ascii.specs.declared.decimals.Number.{Number}
 use Rattle.ascii.specs.declared.decimals.Number.TheVariants.{Malformed}

@@ -1,4 +1,5 @@
 -- What holds of every head that is read: its status and its Location have bounds. Assumes nothing.
+use Rattle.std.specs.Prelude.{if◌then◌else◌}
 use mathlib.Core.Path.{◌≡◌, refl, ap}
 use mathlib.Core.Bool.{Bool, true, false, ◌&&◌, not}
 use mathlib.Core.List.{List, [], ◌∷◌}
@@ -8,7 +9,7 @@ use native.Mathlib.Omega.{arith}
 use lib.ListN.{length, take, drop, length-drop}
 use lib.Dec.{eqb, leb}
 use borrow.Author.Tests.{leb-true}
-use Rattle.ascii.specs.Ascii.{Bytes, if◌then◌else◌, ◌>>=◌, ◌when◌, all, is_empty, take_while, drop_while, join_head, between, is_digit, same_no_case, begins_with, text, value, number16}
+use Rattle.ascii.specs.Ascii.{Bytes, ◌>>=◌, ◌when◌, all, is_empty, take_while, drop_while, join_head, between, is_digit, same_no_case, begins_with, text, value, number16}
 use Rattle.ascii.proofs.OptionLaws.{chained}
 use Rattle.ascii.proofs.Split.{Parts}
 use Rattle.ascii.proofs.Scan.{while_rest}

@@ -1,4 +1,5 @@
 -- Field after field, and the whole head. Assumes nothing.
+use Rattle.std.specs.Prelude.{if◌then◌else◌}
 use mathlib.Core.Path.{◌≡◌, refl, sym, ap, ◌∙◌}
 use mathlib.Core.Bool.{Bool, true, false, ◌&&◌, and-false}
 use mathlib.Core.List.{List, [], ◌∷◌, ◌++◌, append-nil, append_assoc}
@@ -12,7 +13,7 @@ use mir.Syntax.{w64}
 use mir.Val.{Fits}
 use borrow.Author.Rules.{rules}
 use borrow.Author.Tests.{le-leb, lt-leb}
-use Rattle.ascii.specs.Ascii.{Bytes, if◌then◌else◌, ◌>>=◌, ◌when◌, all, is_empty, take_while, join_head, between, begins_with}
+use Rattle.ascii.specs.Ascii.{Bytes, ◌>>=◌, ◌when◌, all, is_empty, take_while, join_head, between, begins_with}
 use Rattle.ascii.proofs.ListLaws.{filled}
 use Rattle.ascii.proofs.Split.{Parts}
 use Rattle.response_head.specs.ResponseHead.{is_text_byte, lines_of, read_status, Field, read_field, is_end, read_fields, values_of, first_passes, is_true, is_list_type, only, authorized_name, type_name, location_name, head_of, read_lines, read_head}

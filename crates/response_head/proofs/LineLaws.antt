@@ -1,4 +1,5 @@
 -- Lines between CRLFs, and one field more. Assumes nothing.
+use Rattle.std.specs.Prelude.{if◌then◌else◌}
 use mathlib.Core.Path.{◌≡◌, refl, sym, ap, ◌∙◌}
 use mathlib.Core.Bool.{Bool, true, false, ◌&&◌, and-true, and-false, and-eq-true_iff}
 use mathlib.Core.List.{List, [], ◌∷◌, ◌++◌, append-nil}
@@ -12,7 +13,7 @@ use mir.Syntax.{w64}
 use mir.Val.{Fits}
 use borrow.Author.Rules.{rules}
 use borrow.Author.Tests.{ne_eqb, eqb-true}
-use Rattle.ascii.specs.Ascii.{Bytes, if◌then◌else◌, all, take_while, drop_while, join_head, same, same_no_case, lower, lower_byte, is_upper, begins_with}
+use Rattle.ascii.specs.Ascii.{Bytes, all, take_while, drop_while, join_head, same, same_no_case, lower, lower_byte, is_upper, begins_with}
 use Rattle.ascii.proofs.Scan.{while_all, while_stops, scan_to, scan_from, scan_rest, scan_part}
 use Rattle.ascii.proofs.ListLaws.{all_both}
 use Rattle.ascii.proofs.Split.{Parts, on_first, on_first_nil, on_first_cons}

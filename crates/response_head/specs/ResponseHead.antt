@@ -1,9 +1,9 @@
 -- One response head and what it says (document 02, S-2). Its grammar is RFC 9112's, sections 2.1 to 5, with tokens and field values as in RFC 9110,
 -- section 5; each rule stands in a comment as its RFC writes it.
-use Rattle.std.specs.Prelude.{List, [], ◌∷◌, Bool, false, ◌&&◌, ◌||◌, not, ℕ, length, take, drop, eqb, leb}
+use Rattle.std.specs.Prelude.{List, [], ◌∷◌, Bool, false, ◌&&◌, ◌||◌, not, ℕ, length, take, drop, eqb, leb, if◌then◌else◌}
 use Rattle.std.proofs.Math.Option.{Option, none, some}
 use Prim.Native.Char.{code}
-use Rattle.ascii.specs.Ascii.{Bytes, if◌then◌else◌, ◌>>=◌, ◌when◌, all, is_empty, take_while, drop_while, join_head, between, among, is_digit, is_letter, same, same_no_case, begins_with, begins_by, text, number16}
+use Rattle.ascii.specs.Ascii.{Bytes, ◌>>=◌, ◌when◌, all, is_empty, take_while, drop_while, join_head, between, among, is_digit, is_letter, same, same_no_case, begins_with, begins_by, text, number16}
 
 -- ---- bytes
 

@@ -1,4 +1,5 @@
 -- From the numbers of the pass to the private label. Assumes nothing.
+use Rattle.std.specs.Prelude.{if◌then◌else◌}
 use mathlib.Core.Path.{◌≡◌, refl, sym, ap, ap₂, ◌∙◌}
 use mathlib.Core.Bool.{Bool, true, false, ◌&&◌, not, and-eq-true_iff}
 use mathlib.Core.List.{List, [], ◌∷◌}
@@ -9,7 +10,7 @@ use lib.ListN.{length, take, drop, length-drop}
 use lib.Seq.{drop-length, take_all}
 use lib.Dec.{leb, ltb}
 use borrow.Author.Tests.{eq-eqb, ne_eqb, lt-leb, le-leb, lt-ltb, le-ltb, leb-true, ltb-true, ltb-false, not-true}
-use Rattle.ascii.specs.Ascii.{Bytes, if◌then◌else◌, ◌>>=◌, all, filter_by, split_at, last_of, join_with, begins_with, same, text}
+use Rattle.ascii.specs.Ascii.{Bytes, ◌>>=◌, all, filter_by, split_at, last_of, join_with, begins_with, same, text}
 use Rattle.hosts.specs.Host.{labels, is_host, is_address}
 use Rattle.hosts.specs.code.Place.{Stands}
 use Rattle.suffix.specs.Suffix.{Rule, normal, exceptional, content, is_skipped, read_rule, read_lines, read_table, matches, longer, most_labels, prevailing, suffix_size, public_suffix, private_labels, label_under, private_label, or_empty}

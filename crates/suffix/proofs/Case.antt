@@ -1,11 +1,12 @@
 -- The private label does not depend on ASCII case.
+use Rattle.std.specs.Prelude.{if◌then◌else◌}
 use mathlib.Core.Path.{◌≡◌, refl}
 use mathlib.Core.List.{List, [], ◌∷◌, map}
 use mathlib.Core.Bool.{Bool, true, false}
 use mathlib.Core.Option
 use mathlib.Core.Option.{Option, none, some}
 use lib.ListN.{length-map}
-use Rattle.ascii.specs.Ascii.{Bytes, if◌then◌else◌, ◌>>=◌, filter_by, join_with, lower_byte, lower, same_no_case}
+use Rattle.ascii.specs.Ascii.{Bytes, ◌>>=◌, filter_by, join_with, lower_byte, lower, same_no_case}
 use Rattle.hosts.specs.Host.{labels, is_host}
 use Rattle.hosts.proofs.Case.{lower_lower, map_map_eq, last_map, labels_lower, is_host_lem, is_address_lem, join_lower}
 use Rattle.suffix.specs.Suffix.{Rule, name_matches, all_match, matches, public_suffix, private_labels, label_under, read_table, private_label}

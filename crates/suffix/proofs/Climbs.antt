@@ -1,4 +1,5 @@
 -- How deep rules go along a host. Assumes nothing.
+use Rattle.std.specs.Prelude.{if◌then◌else◌}
 use mathlib.Core.Path.{◌≡◌, refl, sym, ap, ◌∙◌}
 use mathlib.Core.Bool.{Bool, true, false, ◌&&◌, ◌||◌, and-eq-true_iff}
 use mathlib.Core.List.{List, [], ◌∷◌}
@@ -8,7 +9,7 @@ use native.Mathlib.Omega.{arith}
 use lib.ListN.{length, take, drop}
 use lib.Dec.{leb, ltb}
 use borrow.Author.Tests.{lt-leb, le-leb, lt-ltb, ltb-true, ltb-false, leb-true, leb-false}
-use Rattle.ascii.specs.Ascii.{Bytes, if◌then◌else◌, ◌>>=◌, is_none, any, take_while, last_of, split_at, same, begins_with}
+use Rattle.ascii.specs.Ascii.{Bytes, ◌>>=◌, is_none, any, take_while, last_of, split_at, same, begins_with}
 use Rattle.hosts.specs.Host.{labels, is_host}
 use Rattle.hosts.specs.code.Place.{Stands, ends_at_label}
 use Rattle.suffix.specs.Suffix.{Rule, normal, exceptional, content, is_skipped, read_rule, read_lines, read_table, all_match}

@@ -1,4 +1,5 @@
 -- Lines and rules cut in two: what both parts read and find together. Assumes nothing.
+use Rattle.std.specs.Prelude.{if◌then◌else◌}
 use mathlib.Core.Path.{◌≡◌, refl, sym, ap, ◌∙◌}
 use mathlib.Core.Bool.{Bool, true, false}
 use mathlib.Core.List.{List, [], ◌∷◌, ◌++◌}
@@ -7,7 +8,7 @@ use Prim.Native.Nat.{ℕ, max}
 use native.Mathlib.Omega.{arith}
 use lib.Dec.{eqb}
 use borrow.Author.Tests.{eq-eqb}
-use Rattle.ascii.specs.Ascii.{Bytes, if◌then◌else◌, ◌>>=◌, join_head, split_at}
+use Rattle.ascii.specs.Ascii.{Bytes, ◌>>=◌, join_head, split_at}
 use Rattle.ascii.proofs.Split.{Parts, split_parts}
 use Rattle.suffix.specs.Suffix.{Rule, content, is_skipped, read_rule, read_lines}
 use Rattle.suffix.specs.code.Pass.{best_of, join_best, read_line}

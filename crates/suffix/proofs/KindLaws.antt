@@ -1,4 +1,5 @@
 -- The kinds of bytes, and the table of them. Assumes nothing.
+use Rattle.std.specs.Prelude.{if◌then◌else◌}
 use mathlib.Core.Path.{◌≡◌, refl, sym, ◌∙◌}
 use mathlib.Core.Bool.{Bool, true, false, and-false}
 use mathlib.Core.List.{[], ◌∷◌}
@@ -9,7 +10,7 @@ use lib.Seq.{get_or-set_same, get_or-set_other}
 use lib.Dec.{eqb, ltb}
 use borrow.Author.Rules.{rules}
 use borrow.Author.Tests.{eq-eqb, ne_eqb, eqb-true, eqb-false, lt-leb, le-leb, lt-ltb, le-ltb, ltb-true, ltb-false}
-use Rattle.ascii.specs.Ascii.{Bytes, if◌then◌else◌, is_digit, is_letter, is_upper, lower_byte}
+use Rattle.ascii.specs.Ascii.{Bytes, is_digit, is_letter, is_upper, lower_byte}
 use Rattle.ascii.specs.Class.{class_of, Classifies}
 use Rattle.ascii.proofs.Bytes.{agree}
 use Rattle.suffix.specs.code.Idle.{last_byte, is_alphanumeric, kind_of, KindsOf, kind_in, KindBy, KindsBy, step_of, stop_of}

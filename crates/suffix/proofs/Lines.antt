@@ -1,4 +1,5 @@
 -- One line of the table: what it finds for a host. Assumes nothing.
+use Rattle.std.specs.Prelude.{if◌then◌else◌}
 use mathlib.Core.Path.{◌≡◌, refl, sym, ap, ap₂, ◌∙◌}
 use mathlib.Core.Bool.{Bool, true, false, ◌&&◌, and-false, or-true, and-eq-true_iff}
 use mathlib.Core.List.{List, [], ◌∷◌, ◌++◌}
@@ -13,7 +14,7 @@ use lib.ListN.{length-drop, length-append}
 use lib.Dec.{eqb, leb, ltb}
 use borrow.Author.Tests.{eqb-true, lt-leb, le-leb, ltb-true, ltb-false}
 use Rattle.hosts.proofs.Places.{rest_whole}
-use Rattle.ascii.specs.Ascii.{Bytes, if◌then◌else◌, all, filter_by, last_of, join_head, split_at, is_digit, is_letter, is_upper, same, begins_with}
+use Rattle.ascii.specs.Ascii.{Bytes, all, filter_by, last_of, join_head, split_at, is_digit, is_letter, is_upper, same, begins_with}
 use Rattle.ascii.proofs.Split.{split_parts, split_other}
 use Rattle.hosts.specs.Host.{labels, is_label_byte, is_label, is_host}
 use Rattle.hosts.specs.code.Place.{ends_at_label}

@@ -1,4 +1,5 @@
 -- Lines from one place of a table to another, that go no deeper than some labels of a host. Assumes nothing.
+use Rattle.std.specs.Prelude.{if◌then◌else◌}
 use mathlib.Core.Path.{◌≡◌, refl, sym, ap, ◌∙◌}
 use mathlib.Core.Bool.{Bool, true, false}
 use mathlib.Core.List.{List, [], ◌∷◌, ◌++◌, append_assoc}
@@ -6,7 +7,7 @@ use mathlib.Core.Option.{Option, none, some}
 use Prim.Native.Nat.{ℕ, ◌+◌, ◌≤◌}
 use native.Mathlib.Omega.{arith}
 use lib.ListN.{length, drop}
-use Rattle.ascii.specs.Ascii.{Bytes, if◌then◌else◌, ◌>>=◌, is_none, take_while}
+use Rattle.ascii.specs.Ascii.{Bytes, ◌>>=◌, is_none, take_while}
 use Rattle.hosts.specs.Host.{labels}
 use Rattle.suffix.specs.Suffix.{Rule, content, is_skipped, read_rule, read_lines}
 use Rattle.suffix.specs.code.Pass.{one_rule, read_line, in_line, in_content}

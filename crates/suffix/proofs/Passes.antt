@@ -1,4 +1,5 @@
 -- The pass over the table, line by line. Assumes nothing.
+use Rattle.std.specs.Prelude.{if◌then◌else◌}
 use mathlib.Core.Path.{◌≡◌, refl, sym, ap₂, ◌∙◌}
 use mathlib.Core.Bool.{Bool, true, false, ◌&&◌, not, and-false, or-true, and-eq-true_iff}
 use mathlib.Core.List.{List, [], ◌∷◌}
@@ -12,7 +13,7 @@ use lib.ListN.{length, get_or, take, drop, drop_of_length-le}
 use lib.Seq.{drop-cons}
 use lib.Dec.{eqb, ltb}
 use borrow.Author.Tests.{eq-eqb, ne_eqb, eqb-true, le-leb, lt-leb, ltb-true, ltb-false, not-false}
-use Rattle.ascii.specs.Ascii.{Bytes, if◌then◌else◌, ◌>>=◌, filter_by, take_while, drop_while, split_at}
+use Rattle.ascii.specs.Ascii.{Bytes, ◌>>=◌, filter_by, take_while, drop_while, split_at}
 use Rattle.ascii.proofs.Scan.{while_stops, scan_rest, scan_part, scan_to}
 use Rattle.ascii.proofs.Split.{on_first, split_while, on_first_end, on_first_here}
 use Rattle.hosts.specs.Host.{labels}

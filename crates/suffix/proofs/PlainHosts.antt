@@ -1,4 +1,5 @@
 -- A line is a host where each of its bytes may stand behind the byte before it. Assumes nothing.
+use Rattle.std.specs.Prelude.{if◌then◌else◌}
 use mathlib.Core.Path.{◌≡◌, refl, sym, ap, ◌∙◌}
 use mathlib.Core.Bool.{Bool, true, false, ◌&&◌, ◌||◌, or-true, and-eq-true_iff}
 use mathlib.Core.List.{[], ◌∷◌, ◌++◌}
@@ -8,7 +9,7 @@ use lib.ListN.{length, get_or, length-append, get_or-append}
 use lib.Seq.{append_snoc, get_or_at}
 use lib.Dec.{eqb, ltb}
 use borrow.Author.Tests.{eq-eqb, ne_eqb, eqb-true, eqb-false, lt-leb, le-leb, ltb-true, ltb-false}
-use Rattle.ascii.specs.Ascii.{Bytes, if◌then◌else◌, all, take_while, join_head, split_at, is_digit, is_letter, is_upper}
+use Rattle.ascii.specs.Ascii.{Bytes, all, take_while, join_head, split_at, is_digit, is_letter, is_upper}
 use Rattle.ascii.proofs.Split.{split_parts, split_other, on_first, on_first_end, on_first_here}
 use Rattle.hosts.specs.Host.{labels, is_label_byte, is_label, is_host}
 use Rattle.suffix.specs.code.Pass.{in_line, in_content}

@@ -1,5 +1,6 @@
 -- A host that ends in the label of another has that label exactly where both have as long a public suffix; where no rule goes
 -- deeper than the label, always. Assumes nothing.
+use Rattle.std.specs.Prelude.{if◌then◌else◌}
 use mathlib.Core.Path.{◌≡◌, refl, sym, ap, ◌∙◌}
 use mathlib.Core.Bool.{Bool, true, false, ◌&&◌, ◌||◌, and-eq-true_iff}
 use mathlib.Core.List.{List, [], ◌∷◌, map}
@@ -10,7 +11,7 @@ use lib.ListN.{length, drop, length-drop, length-map}
 use lib.Seq.{drop-drop}
 use lib.Dec.{eqb, leb}
 use borrow.Author.Tests.{eq-eqb, eqb-true, lt-ltb, lt-leb, le-leb, leb-true, leb-false}
-use Rattle.ascii.specs.Ascii.{Bytes, if◌then◌else◌, ◌>>=◌, between, all, any, filter_by, last_of, split_at, join_with, is_digit, lower, same_no_case}
+use Rattle.ascii.specs.Ascii.{Bytes, ◌>>=◌, between, all, any, filter_by, last_of, split_at, join_with, is_digit, lower, same_no_case}
 use Rattle.ascii.proofs.Split.{join_split}
 use Rattle.hosts.specs.Host.{labels, is_label, is_host, is_address}
 use Rattle.hosts.specs.code.Place.{ends_at_label}

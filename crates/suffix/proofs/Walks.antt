@@ -1,4 +1,5 @@
 -- The loop over the bytes of lines that find nothing. Assumes nothing.
+use Rattle.std.specs.Prelude.{if◌then◌else◌}
 use mathlib.Core.Path.{◌≡◌, refl, sym, ap, ◌∙◌}
 use mathlib.Core.Bool.{Bool, true, false, ◌&&◌, ◌||◌, or-true}
 use mathlib.Core.List.{◌∷◌}
@@ -12,7 +13,7 @@ use lib.ListN.{length-drop}
 use lib.Dec.{eqb, leb, ltb}
 use borrow.Author.Rules.{rules}
 use borrow.Author.Tests.{eq-eqb, ne_eqb, eqb-true, eqb-false, lt-ltb, le-ltb, ltb-true, leb-true}
-use Rattle.ascii.specs.Ascii.{Bytes, if◌then◌else◌, take_while, lower_byte}
+use Rattle.ascii.specs.Ascii.{Bytes, take_while, lower_byte}
 use Rattle.ascii.proofs.Scan.{scan_part}
 use Rattle.hosts.specs.Host.{labels}
 use Rattle.suffix.specs.code.Pass.{read_line, in_line}

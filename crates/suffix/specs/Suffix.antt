@@ -1,8 +1,8 @@
 -- The suffix table, its rules, and the private label of a host (document 01, "Hosts and private labels").
-use Rattle.std.specs.Prelude.{List, [], ◌∷◌, Bool, true, false, ◌&&◌, ◌||◌, not, ℕ, ◌+◌, ◌-◌, length, drop, eqb, leb, ltb}
+use Rattle.std.specs.Prelude.{List, [], ◌∷◌, Bool, true, false, ◌&&◌, ◌||◌, not, ℕ, ◌+◌, ◌-◌, length, drop, eqb, leb, ltb, if◌then◌else◌}
 use Rattle.std.proofs.Math.Option.{Option, none, some, get_or}
 use Prim.Native.Char.{code}
-use Rattle.ascii.specs.Ascii.{Bytes, if◌then◌else◌, ◌>>=◌, ◌or_else◌, filter_by, is_empty, take_while, last_of, split_at, join_with, same, same_no_case, begins_with, text}
+use Rattle.ascii.specs.Ascii.{Bytes, ◌>>=◌, ◌or_else◌, filter_by, is_empty, take_while, last_of, split_at, join_with, same, same_no_case, begins_with, text}
 use Rattle.hosts.specs.Host.{labels, is_host, is_address}
 
 -- ---- the table

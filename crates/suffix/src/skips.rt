@@ -1,6 +1,6 @@
 // The ends of lines; and lines of the table that find nothing for a host, passed over.
-ghost use Rattle.std.specs.Prelude.{◌≡◌, ◌&&◌, ◌||◌, not, ◌+◌, ◌≤◌, ◌<◌, length, get_or, drop, eqb, ltb};
-ghost use Rattle.ascii.specs.Ascii.{if◌then◌else◌, take_while};
+ghost use Rattle.std.specs.Prelude.{◌≡◌, ◌&&◌, ◌||◌, not, ◌+◌, ◌≤◌, ◌<◌, length, get_or, drop, eqb, ltb, if◌then◌else◌};
+ghost use Rattle.ascii.specs.Ascii.{take_while};
 ghost use Rattle.hosts.specs.Host.{labels};
 ghost use Rattle.hosts.specs.code.Place.{ends_at_label};
 ghost use Rattle.suffix.specs.code.Pass.{in_line, in_content};

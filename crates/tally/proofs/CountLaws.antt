@@ -1,4 +1,5 @@
 -- The counts of the entries, entry after entry.
+use Rattle.std.specs.Prelude.{if◌then◌else◌}
 use mathlib.Core.Path.{◌≡◌, refl, sym, ap, ◌∙◌}
 use mathlib.Core.List.{List, [], ◌∷◌}
 use mathlib.Core.Option.{Option, none, some}
@@ -6,7 +7,7 @@ use Prim.Native.Nat.{ℕ, suc, ◌+◌, ◌≤◌, ◌<◌}
 use native.Mathlib.Omega.{arith}
 use lib.Dec.{eqb}
 use lib.ListN.{length}
-use Rattle.ascii.specs.Ascii.{Bytes, if◌then◌else◌, filter_by}
+use Rattle.ascii.specs.Ascii.{Bytes, filter_by}
 use Rattle.json_text.specs.declared.Next.{Next}
 use Rattle.json_text.specs.declared.Next.TheVariants.{At, Bad}
 use Rattle.trusted_list.specs.code.Entries.{first_entry}

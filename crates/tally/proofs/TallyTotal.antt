@@ -1,4 +1,5 @@
 -- The tally counts kept entries and each of the four causes; their total is the number of entries (document 01, after the decision).
+use Rattle.std.specs.Prelude.{if◌then◌else◌}
 use mathlib.Core.Path.{◌≡◌, refl}
 use mathlib.Core.List.{List, [], ◌∷◌}
 use mathlib.Core.Option.{Option, none, some}
@@ -6,7 +7,7 @@ use Prim.Native.Nat.{ℕ, suc, ◌+◌}
 use native.Mathlib.Omega.{arith}
 use lib.ListN.{length}
 use lib.Dec.{eqb}
-use Rattle.ascii.specs.Ascii.{Bytes, if◌then◌else◌, filter_by}
+use Rattle.ascii.specs.Ascii.{Bytes, filter_by}
 use Rattle.refusals.specs.declared.Refusal.{Refusal}
 use Rattle.trusted_list.specs.TrustedList.{entries}
 use Rattle.entries.specs.Causes.{cause}

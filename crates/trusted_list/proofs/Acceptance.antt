@@ -1,5 +1,6 @@
 -- "A body is accepted when none of refusals 9 to 12 fits it" (document 01, "The list"): it is short enough, and something is selected.
 -- Assumes nothing.
+use Rattle.std.specs.Prelude.{if◌then◌else◌}
 use mathlib.Core.Path.{◌≡◌, refl}
 use mathlib.Core.List.{List, ◌∷◌}
 use mathlib.Core.Bool.{Bool, true, false, ◌&&◌, not}
@@ -9,7 +10,7 @@ use native.Mathlib.Omega.{arith}
 use lib.ListN.{length}
 use lib.Dec.{eqb, leb, ltb}
 use borrow.Author.Tests.{eqb-true, leb-true, leb-false, lt-leb}
-use Rattle.ascii.specs.Ascii.{Bytes, if◌then◌else◌, ◌>>=◌, ◌when◌, is_none, is_empty, all, is_digit, text, value, number16}
+use Rattle.ascii.specs.Ascii.{Bytes, ◌>>=◌, ◌when◌, is_none, is_empty, all, is_digit, text, value, number16}
 use Rattle.ascii.proofs.OptionLaws.{Holds, holds, and_then, chained}
 use Rattle.json_values.specs.Json.{Json, Jsons, no_item, item, read_json}
 use Rattle.refusals.specs.declared.Refusal.TheVariants.{LongList, Unreadable, Misshapen, NoVersion}

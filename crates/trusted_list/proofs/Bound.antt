@@ -1,5 +1,6 @@
 -- The shortest text of a list: no body from which a version and its ids are read is shorter than the text that cleaning writes for them.
 -- Assumes nothing.
+use Rattle.std.specs.Prelude.{if◌then◌else◌}
 use mathlib.Core.Path.{◌≡◌, refl, ap}
 use mathlib.Core.List.{List, [], ◌∷◌}
 use mathlib.Core.Bool.{Bool, true, false, ◌&&◌, not}
@@ -9,7 +10,7 @@ use native.Mathlib.Omega.{arith}
 use lib.ListN.{length}
 use lib.Dec.{eqb, leb}
 use borrow.Author.Tests.{eqb-true}
-use Rattle.ascii.specs.Ascii.{Bytes, if◌then◌else◌, ◌>>=◌, ◌when◌, is_empty, all, is_digit, same, text, value, number16, decimal}
+use Rattle.ascii.specs.Ascii.{Bytes, ◌>>=◌, ◌when◌, is_empty, all, is_digit, same, text, value, number16, decimal}
 use Rattle.ascii.proofs.Compare.{same_eq}
 use Rattle.ascii.proofs.OptionLaws.{Holds, holds, and_then, chained}
 use Rattle.ascii.proofs.DecimalLaws.{decimal_shortest}

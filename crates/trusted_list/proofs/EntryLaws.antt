@@ -1,4 +1,5 @@
 -- Going through the entries gives the selected list, whatever blanks and escapes the body uses.
+use Rattle.std.specs.Prelude.{if◌then◌else◌}
 use mathlib.Core.Path.{◌≡◌, refl, sym, ap, ◌∙◌}
 use mathlib.Core.Bool.{Bool, true, false}
 use mathlib.Core.List.{List, [], ◌∷◌}
@@ -8,7 +9,7 @@ use native.Mathlib.Omega.{arith}
 use lib.Dec.{eqb}
 use borrow.Author.Tests.{eqb-true, eqb-false}
 use lib.ListN.{length, drop}
-use Rattle.ascii.specs.Ascii.{Bytes, if◌then◌else◌, ◌>>=◌ as ◌then◌}
+use Rattle.ascii.specs.Ascii.{Bytes, ◌>>=◌ as ◌then◌}
 use Rattle.json_text.specs.Reader.{Read, got, bad, Reader, ◌>>◌, give, fail, one_of, peek, ifNext◌then◌else◌, mapped, counted}
 use Rattle.json_text.specs.Lexical.{ws, read_string}
 use Rattle.json_text.specs.code.Places.{Peeked, read_at, place_of}

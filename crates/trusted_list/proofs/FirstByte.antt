@@ -1,4 +1,5 @@
 -- What the first byte of a value tells of it.
+use Rattle.std.specs.Prelude.{if◌then◌else◌}
 use mathlib.Core.Path.{◌≡◌, refl, sym, ap, ◌∙◌}
 use mathlib.Core.Bool.{Bool, true, false, and-false}
 use mathlib.Core.List.{[], ◌∷◌}
@@ -8,7 +9,7 @@ use native.Mathlib.Omega.{arith}
 use lib.Dec.{eqb, leb}
 use lib.ListN.{take, drop}
 use borrow.Author.Tests.{eqb-true, eqb-false, eq-eqb, ne_eqb, lt-leb}
-use Rattle.ascii.specs.Ascii.{Bytes, if◌then◌else◌, all, among, is_digit, number16}
+use Rattle.ascii.specs.Ascii.{Bytes, all, among, is_digit, number16}
 use Rattle.json_text.specs.Reader.{Read, got, bad, Reader, more, peek, fail, ifNext◌then◌else◌, ◌giving◌, verbatim, as_written, mapped}
 use Rattle.json_text.specs.Lexical.{read_number, read_string}
 use Rattle.json_text.specs.code.Places.{Peeked, read_at}

@@ -1,4 +1,5 @@
 -- From what is held of members or items to what is held of the whole value, level by level.
+use Rattle.std.specs.Prelude.{if◌then◌else◌}
 use mathlib.Core.Path.{◌≡◌, refl, sym, ap, ◌∙◌}
 use mathlib.Core.Bool.{Bool, true, false, ◌&&◌, not, and-true}
 use mathlib.Core.List.{List, [], ◌∷◌, ◌++◌}
@@ -7,7 +8,7 @@ use Prim.Native.Nat.{ℕ, suc, ◌+◌}
 use native.Mathlib.Omega.{arith}
 use lib.Dec.{eqb}
 use borrow.Author.Tests.{eq-eqb, ne_eqb}
-use Rattle.ascii.specs.Ascii.{Bytes, if◌then◌else◌, ◌>>=◌, ◌or_else◌, is_none, all, same, text}
+use Rattle.ascii.specs.Ascii.{Bytes, ◌>>=◌, ◌or_else◌, is_none, all, same, text}
 use Rattle.json_text.specs.Reader.{got, mapped}
 use Rattle.json_text.specs.code.Places.{Peeked, read_at, place_of}
 use Rattle.json_text.specs.code.PlainString.{AsciiString, is_short, is_unknown}

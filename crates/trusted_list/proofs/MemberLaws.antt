@@ -1,4 +1,5 @@
 -- The ways through a member, and through the members of one or two names.
+use Rattle.std.specs.Prelude.{if◌then◌else◌}
 use mathlib.Core.Path.{◌≡◌, refl, sym, ap, ap₂, ◌∙◌}
 use mathlib.Core.Bool.{Bool, true, false}
 use mathlib.Core.List.{List, [], ◌∷◌, ◌++◌, append-nil}
@@ -8,7 +9,7 @@ use native.Mathlib.Omega.{arith}
 use lib.Dec.{leb}
 use lib.ListN.{length}
 use borrow.Author.Tests.{leb-false}
-use Rattle.ascii.specs.Ascii.{Bytes, if◌then◌else◌, same, text}
+use Rattle.ascii.specs.Ascii.{Bytes, same, text}
 use Rattle.ascii.proofs.Compare.{same_eq}
 use Rattle.json_text.specs.Reader.{Read, got, bad, Reader, ◌>>=◌, one_of, mapped}
 use Rattle.json_text.specs.Lexical.{ws, read_string}

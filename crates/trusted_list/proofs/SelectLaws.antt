@@ -1,4 +1,5 @@
 -- The whole body: its refusal, or the place of the selected ids.
+use Rattle.std.specs.Prelude.{if◌then◌else◌}
 use mathlib.Core.Path.{◌≡◌, refl, sym, ap, ◌∙◌}
 use mathlib.Core.List.{List, []}
 use mathlib.Core.Option.{Option, none, some, get_or}
@@ -8,7 +9,7 @@ use native.Mathlib.Omega.{arith}
 use lib.ListN.{length, drop_of_length-le}
 use lib.Seq.{drop-cons}
 use borrow.Author.Tests.{lt-ltb, le-ltb}
-use Rattle.ascii.specs.Ascii.{Bytes, if◌then◌else◌, ◌>>=◌, is_none}
+use Rattle.ascii.specs.Ascii.{Bytes, ◌>>=◌, is_none}
 use Rattle.json_text.specs.Reader.{Read, got, bad, more, end_of_text}
 use Rattle.json_text.specs.Lexical.{ws}
 use Rattle.json_text.specs.code.Places.{read_at}

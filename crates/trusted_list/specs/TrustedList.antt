@@ -1,7 +1,7 @@
 -- The trusted facets list: its shape and the selected entries (document 01, "The list").
-use Rattle.std.specs.Prelude.{◌≡◌, List, [], ◌∷◌, Bool, ◌&&◌, ℕ, length, eqb, ltb}
+use Rattle.std.specs.Prelude.{◌≡◌, List, [], ◌∷◌, Bool, ◌&&◌, ℕ, length, eqb, ltb, if◌then◌else◌}
 use Rattle.std.proofs.Math.Option.{Option, none, some, get_or}
-use Rattle.ascii.specs.Ascii.{Bytes, if◌then◌else◌, ◌>>=◌, is_none, same, text, number16}
+use Rattle.ascii.specs.Ascii.{Bytes, ◌>>=◌, is_none, same, text, number16}
 use Rattle.json_values.specs.Json.{Json, literal, number, string, array, object, Jsons, no_item, item, Members, no_member, member, read_json}
 use Rattle.refusals.specs.declared.Refusal.{Refusal}
 use Rattle.refusals.specs.declared.Refusal.TheVariants.{LongList, Unreadable, Misshapen, NoVersion}

@@ -1,6 +1,6 @@
 -- The first byte from lo to hi, by blocks of 64.
-use Rattle.std.specs.Prelude.{Bool, ◌||◌, ℕ, length, take, drop, ltb}
-use Rattle.ascii.specs.Ascii.{Bytes, if◌then◌else◌, take_while}
+use Rattle.std.specs.Prelude.{Bool, ◌||◌, ℕ, length, take, drop, ltb, if◌then◌else◌}
+use Rattle.ascii.specs.Ascii.{Bytes, take_while}
 
 -- a byte that is not one from lo to hi
 unfoldable pub outside : ℕ → ℕ → ℕ → Bool

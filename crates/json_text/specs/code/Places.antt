@@ -1,7 +1,7 @@
 -- What a reader finds at a place of a text, and the answers of the code.
-use Rattle.std.specs.Prelude.{◌≡◌, Bool, false, ◌++◌, ℕ, leb, ltb, length, take, drop}
+use Rattle.std.specs.Prelude.{◌≡◌, Bool, false, ◌++◌, ℕ, leb, ltb, length, take, drop, if◌then◌else◌}
 use Rattle.std.proofs.Math.Option.{Option, none, some}
-use Rattle.ascii.specs.Ascii.{Bytes, if◌then◌else◌, same}
+use Rattle.ascii.specs.Ascii.{Bytes, same}
 use Rattle.json_text.specs.Reader.{Read, got, bad, Reader, more, peek}
 use Rattle.json_text.specs.Lexical.{hex_value}
 use Rattle.json_text.specs.declared.Next.{Next}

@@ -1,7 +1,7 @@
 -- A quick test that two identifiers do not match (proofs/UnlikeSteps.antt: `unlike_none`).
-use Rattle.std.specs.Prelude.{[], ◌∷◌, Bool, true, ◌&&◌, ◌||◌, not, ℕ, eqb}
+use Rattle.std.specs.Prelude.{[], ◌∷◌, Bool, true, ◌&&◌, ◌||◌, not, ℕ, eqb, if◌then◌else◌}
 use Prim.Native.Char.{code}
-use Rattle.ascii.specs.Ascii.{Bytes, if◌then◌else◌, lower_byte}
+use Rattle.ascii.specs.Ascii.{Bytes, lower_byte}
 
 -- what may follow a host
 unfoldable pub is_stop : ℕ → Bool

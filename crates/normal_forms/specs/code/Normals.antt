@@ -1,7 +1,7 @@
 -- What a normal form keeps, what its bytes are, and where its parts stand.
-use Rattle.std.specs.Prelude.{◌≡◌, [], ◌++◌, Bool, ◌&&◌, ◌||◌, not, ℕ, ◌+◌, ◌≤◌, ◌<◌, length, get_or, eqb}
+use Rattle.std.specs.Prelude.{◌≡◌, [], ◌++◌, Bool, ◌&&◌, ◌||◌, not, ℕ, ◌+◌, ◌≤◌, ◌<◌, length, get_or, eqb, if◌then◌else◌}
 use Prim.Native.Char.{code}
-use Rattle.ascii.specs.Ascii.{Bytes, if◌then◌else◌, is_empty, between, lower, same, text}
+use Rattle.ascii.specs.Ascii.{Bytes, is_empty, between, lower, same, text}
 use Rattle.origin.specs.Origin.{Authority, shown_port}
 use Rattle.origin.specs.code.Parts.{part}
 

@@ -1,6 +1,6 @@
 -- Bytes written into a lent slice.
-use Rattle.std.specs.Prelude.{◌≡◌, ◌++◌, ℕ, ◌+◌, length, take, drop, leb}
-use Rattle.ascii.specs.Ascii.{Bytes, if◌then◌else◌}
+use Rattle.std.specs.Prelude.{◌≡◌, ◌++◌, ℕ, ◌+◌, length, take, drop, leb, if◌then◌else◌}
+use Rattle.ascii.specs.Ascii.{Bytes}
 
 -- x written into s at a place, the bytes before and behind unchanged; s itself where there is no room
 unfoldable pub written_at : Bytes → ℕ → Bytes → Bytes

@@ -1,8 +1,8 @@
 -- What the code answers: where the parts of an identifier stand in it.
-use Rattle.std.specs.Prelude.{◌≡◌, [], Bool, ◌||◌, ℕ, ◌+◌, ◌-◌, ◌≤◌, ◌<◌, length, take, drop, get_or}
+use Rattle.std.specs.Prelude.{◌≡◌, [], Bool, ◌||◌, ℕ, ◌+◌, ◌-◌, ◌≤◌, ◌<◌, length, take, drop, get_or, if◌then◌else◌}
 use Rattle.std.proofs.Math.Option.{Option, none, some}
 use Prim.Native.Char.{code}
-use Rattle.ascii.specs.Ascii.{Bytes, if◌then◌else◌, is_empty, same, begins_with, text, number16}
+use Rattle.ascii.specs.Ascii.{Bytes, is_empty, same, begins_with, text, number16}
 use Rattle.ascii.specs.code.Numbers.{number_of}
 use Rattle.ascii.specs.declared.decimals.Number.{Number}
 use Rattle.ascii.specs.declared.decimals.Number.TheVariants.{Malformed as NoNumber}

@@ -1,7 +1,7 @@
 -- What the answers of the code mean, in the terms of ResponseHead.
-use Rattle.std.specs.Prelude.{◌≡◌, Bool, true, false, ◌||◌, List, [], ◌∷◌, ◌++◌, ℕ, ◌-◌, ◌≤◌, length, take, drop}
+use Rattle.std.specs.Prelude.{◌≡◌, Bool, true, false, ◌||◌, List, [], ◌∷◌, ◌++◌, ℕ, ◌-◌, ◌≤◌, length, take, drop, if◌then◌else◌}
 use Rattle.std.proofs.Math.Option.{Option, none, some}
-use Rattle.ascii.specs.Ascii.{Bytes, if◌then◌else◌, ◌>>=◌, all, is_digit, is_letter, same_no_case}
+use Rattle.ascii.specs.Ascii.{Bytes, ◌>>=◌, all, is_digit, is_letter, same_no_case}
 use Rattle.response_head.specs.ResponseHead.{is_blank, is_text_byte, is_tchar, is_other, Field, Head, redirect, answer, trim_end, values_of, read_field, head_of, is_true, is_list_type, authorized_name, type_name, location_name}
 use Rattle.response_head.specs.declared.Run.{Run}
 use Rattle.response_head.specs.declared.Run.TheVariants.{Blank, Text, Tchar, Other}

@@ -1,7 +1,7 @@
 -- How deep the rules of a table go along a host's last labels: what one pass needs to know, beside the sizes, of deeper rules.
-use Rattle.std.specs.Prelude.{◌≡◌, List, [], ◌∷◌, Bool, false, ℕ, suc, max, length}
+use Rattle.std.specs.Prelude.{◌≡◌, List, [], ◌∷◌, Bool, false, ℕ, suc, max, length, if◌then◌else◌}
 use Rattle.std.proofs.Math.Option.{Option, none, some}
-use Rattle.ascii.specs.Ascii.{Bytes, if◌then◌else◌, is_none, last_of}
+use Rattle.ascii.specs.Ascii.{Bytes, is_none, last_of}
 use Rattle.hosts.specs.Host.{labels}
 use Rattle.suffix.specs.Suffix.{Rule, content}
 use Rattle.suffix.specs.code.Pass.{read_line}

@@ -1,7 +1,7 @@
 -- Lines of the table that find nothing for a host, as one loop over their bytes passes over them.
-use Rattle.std.specs.Prelude.{◌≡◌, Bool, true, ◌&&◌, ◌||◌, ℕ, suc, ◌+◌, ◌-◌, ◌*◌, ◌≤◌, ◌<◌, length, take, drop, get_or, eqb, leb, ltb}
+use Rattle.std.specs.Prelude.{◌≡◌, Bool, true, ◌&&◌, ◌||◌, ℕ, suc, ◌+◌, ◌-◌, ◌*◌, ◌≤◌, ◌<◌, length, take, drop, get_or, eqb, leb, ltb, if◌then◌else◌}
 use Prim.Native.Char.{code}
-use Rattle.ascii.specs.Ascii.{Bytes, if◌then◌else◌, take_while, last_of, split_at, is_digit, is_letter, lower_byte}
+use Rattle.ascii.specs.Ascii.{Bytes, take_while, last_of, split_at, is_digit, is_letter, lower_byte}
 use Rattle.ascii.specs.Class.{Classifies}
 use Rattle.hosts.specs.Host.{labels, is_host}
 use Rattle.hosts.specs.code.Place.{Stands}

@@ -1,8 +1,8 @@
 -- What one pass over the table finds for a host: the most labels of a matching exception, and of any matching rule.
-use Rattle.std.specs.Prelude.{◌≡◌, List, [], ◌∷◌, Bool, ◌&&◌, not, ℕ, ◌-◌, ◌≤◌, max, length, drop, eqb, ltb}
+use Rattle.std.specs.Prelude.{◌≡◌, List, [], ◌∷◌, Bool, ◌&&◌, not, ℕ, ◌-◌, ◌≤◌, max, length, drop, eqb, ltb, if◌then◌else◌}
 use Rattle.std.proofs.Math.Option.{Option, none, some}
 use Prim.Native.Char.{code}
-use Rattle.ascii.specs.Ascii.{Bytes, if◌then◌else◌, filter_by}
+use Rattle.ascii.specs.Ascii.{Bytes, filter_by}
 use Rattle.suffix.specs.Suffix.{Rule, is_blank, is_skipped, read_rule, matches, private_label, or_empty}
 use Rattle.suffix.specs.declared.Best.{Best}
 use Rattle.suffix.specs.declared.Best.TheVariants.{Bad, Sizes}

@@ -1,8 +1,8 @@
 -- Lines from one place of a table to another, that go no deeper than some labels of a host.
-use Rattle.std.specs.Prelude.{◌≡◌, List, [], ◌++◌, ℕ, ◌≤◌, length, drop, leb}
+use Rattle.std.specs.Prelude.{◌≡◌, List, [], ◌++◌, ℕ, ◌≤◌, length, drop, leb, if◌then◌else◌}
 use Rattle.std.proofs.Math.Option.{some}
 use Prim.Native.Char.{code}
-use Rattle.ascii.specs.Ascii.{Bytes, if◌then◌else◌, split_at}
+use Rattle.ascii.specs.Ascii.{Bytes, split_at}
 use Rattle.hosts.specs.Host.{labels}
 use Rattle.suffix.specs.Suffix.{Rule, read_lines}
 use Rattle.suffix.specs.code.Depth.{deepest}

@@ -1,7 +1,7 @@
 -- What the one pass over a body holds of the values that it reads, and how that stands to the tree.
-use Rattle.std.specs.Prelude.{◌≡◌, List, [], ◌∷◌, ◌++◌, Bool, true, false, ◌&&◌, not, ℕ, eqb}
+use Rattle.std.specs.Prelude.{◌≡◌, List, [], ◌∷◌, ◌++◌, Bool, true, false, ◌&&◌, not, ℕ, eqb, if◌then◌else◌}
 use Rattle.std.proofs.Math.Option.{Option, none, some}
-use Rattle.ascii.specs.Ascii.{Bytes, if◌then◌else◌, is_none, all, text}
+use Rattle.ascii.specs.Ascii.{Bytes, is_none, all, text}
 use Rattle.json_text.specs.Reader.{Read, got, bad, Reader, ◌>>=◌, ◌>>◌, give, one_of, ifNext◌then◌else◌}
 use Rattle.json_text.specs.Lexical.{ws, read_string}
 use Rattle.json_text.specs.code.Places.{read_at}
