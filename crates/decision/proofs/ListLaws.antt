@@ -192,10 +192,10 @@ module _ (caller appid items lent : Bytes) (q : Stage) (B : Before caller appid 
     locate_refused {x} f = other (Refused x) f (unfold stage_of answer_of if_fetch in refl) (unfold stage_of answer_of source_if_fetch in refl)
 
 -- the part itself
-in_text_lem : {lent : Bytes} {a b : ℕ} {r : Location} → Inside lent r → r ≡ Text a b → (a ≤ b) × (b ≤ length lent)
-in_text_lem no_place h = let z : ◌≡◌ {A = ℕ} 0 1 = cc in absurd (omega arith)
-in_text_lem app_place h = let z : ◌≡◌ {A = ℕ} 0 1 = cc in absurd (omega arith)
-in_text_lem {a} {b} (text_place {a = i} {b = j} l k) h =
+in_the_text : {lent : Bytes} {a b : ℕ} {r : Location} → Inside lent r → r ≡ Text a b → (a ≤ b) × (b ≤ length lent)
+in_the_text no_place h = let z : ◌≡◌ {A = ℕ} 0 1 = cc in absurd (omega arith)
+in_the_text app_place h = let z : ◌≡◌ {A = ℕ} 0 1 = cc in absurd (omega arith)
+in_the_text {a} {b} (text_place {a = i} {b = j} l k) h =
     let x : i ≡ a = cc in
     let y : j ≡ b = cc in
     (omega arith, omega arith)
@@ -215,7 +215,7 @@ module _ {appid lent s : Bytes} {source : Source} {r : Location} (L : Locates ap
     part_text = (rw h at L.is)
 
     pub part_start : a ≤ b
-    part_start = (in_text_lem L.inside h).0
+    part_start = (in_the_text L.inside h).0
 
     pub part_end : b ≤ length lent
-    part_end = (in_text_lem L.inside h).1
+    part_end = (in_the_text L.inside h).1

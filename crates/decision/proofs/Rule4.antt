@@ -40,11 +40,11 @@ either : (P : Stage → Type 0) (t : Bool) {x y : Stage} → P x → P y → P (
 either P true p q = p
 either P false p q = q
 
-by_fetch_lem : (f : Fetching) → NoRule4 (by_fetch f)
+on_fetch : (f : Fetching) → NoRule4 (by_fetch f)
 unfolding by_fetch
-by_fetch_lem (hopRefused r) = tt
-by_fetch_lem mustFetch = tt
-by_fetch_lem (answered a) = tt
+on_fetch (hopRefused r) = tt
+on_fetch mustFetch = tt
+on_fetch (answered a) = tt
 
 pub before_list_lem : (caller appid items lent : Bytes) → NoRule4 (before_list caller appid items lent)
 unfolding before_list
@@ -55,7 +55,7 @@ before_list_lem caller appid items lent =
     (either NoRule4 (not (begins_https appid) && same appid caller) tt
     (either NoRule4 (not (begins_https appid)) tt
     (either NoRule4 (same_host (web_origin caller) (https_url appid)) tt
-    (by_fetch_lem (fetching items lent)))))))
+    (on_fetch (fetching items lent)))))))
 
 -- ---- the first match is an element that matches, and has what every element has
 
@@ -85,7 +85,7 @@ agree_same table appid host h = go (private_label table host) (app_label table a
     go none none p q r = let z : ◌≡◌ {A = ℕ} 0 1 = cc in absurd (omega arith)
     go none (some m) p q r = let z : ◌≡◌ {A = ℕ} 0 1 = cc in absurd (omega arith)
     go (some l) none p q r = let z : ◌≡◌ {A = ℕ} 0 1 = cc in absurd (omega arith)
-    go (some l) (some m) p q r = record { label = l; app_label_lem = m; exists = p; app_exists = q; equal = r }
+    go (some l) (some m) p q r = record { label = l; appid_label = m; exists = p; app_exists = q; equal = r }
 
 agree_case : (x y m : Option Bytes) → map lower x ≡ map lower y → labels_agree x m ≡ true → labels_agree y m ≡ true
 unfolding labels_agree same_no_case

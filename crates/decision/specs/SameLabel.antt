@@ -8,7 +8,7 @@ use Rattle.entries.specs.AppId.{app_label}
 -- both labels exist, and they are equal without regard to ASCII case
 pub record SameLabel (table appid host : Bytes) : Type 0 where
   pub label : Bytes
-  pub app_label_lem : Bytes
+  pub appid_label : Bytes
   pub exists : private_label table host ≡ some label
-  pub app_exists : app_label table appid ≡ some app_label_lem
-  pub equal : same_no_case label app_label_lem ≡ true
+  pub app_exists : app_label table appid ≡ some appid_label
+  pub equal : same_no_case label appid_label ≡ true

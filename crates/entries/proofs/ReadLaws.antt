@@ -18,7 +18,7 @@ use Rattle.normal_forms.proofs.Writings.{wrote_is, wrote_length}
 use Rattle.json_text.specs.Reader.{got}
 use Rattle.json_text.specs.Lexical.{read_string}
 use Rattle.json_text.specs.code.Places.{read_at, fit, held, content, push, Puts, PutsRead, is_on, is_stuck}
-use Rattle.json_text.specs.code.PlainString.{Within, in_text_lem, no_place, Plain, is_plain_lem, is_other_lem, PlainIs}
+use Rattle.json_text.specs.code.PlainString.{Within, in_the_text, no_place, Plain, plain_string, other_string, PlainIs}
 use Rattle.json_text.specs.declared.Next.{Next}
 use Rattle.json_text.specs.declared.Next.TheVariants.{At}
 use Rattle.json_text.specs.declared.Progress.{Progress}
@@ -76,7 +76,7 @@ module _ {s : Bytes} {at : ℕ} {r : Next} (P : PlainIs s at r) {q : ℕ} (h : r
   bounds = go P.within h
     where
       go : {r : Next} → Within s at r → r ≡ At q → (at + 1 ≤ q) × (q < length s)
-      go (in_text_lem {q = p} l m) h = let z : p ≡ q = cc in (omega arith, omega arith)
+      go (in_the_text {q = p} l m) h = let z : p ≡ q = cc in (omega arith, omega arith)
       go no_place h = let z : ◌≡◌ {A = ℕ} 0 1 = cc in absurd (omega arith)
 
   pub plain_low : at + 1 ≤ q
@@ -96,8 +96,8 @@ module _ {s : Bytes} {at : ℕ} {r : Next} (P : PlainIs s at r) {q : ℕ} (h : r
     there = go (P.is e k f) h
       where
         go : {r : Next} → Plain s at e k r → r ≡ At q → (k ≡ q + 1) × (e ≡ take (q - (at + 1)) (drop (at + 1) s))
-        go (is_plain_lem {q = p} a b) h = let z : p ≡ q = cc in (rw z at a, rw z at b)
-        go is_other_lem h = let z : ◌≡◌ {A = ℕ} 0 1 = cc in absurd (omega arith)
+        go (plain_string {q = p} a b) h = let z : p ≡ q = cc in (rw z at a, rw z at b)
+        go other_string h = let z : ◌≡◌ {A = ℕ} 0 1 = cc in absurd (omega arith)
 
   pub decodes_plain : {before after : Bytes} {k : ℕ} → Wrote (take (q - (at + 1)) (drop (at + 1) s)) 0 before after k
       → Decodes s at before after (On (length (take (q - (at + 1)) (drop (at + 1) s))) (q + 1))

@@ -85,7 +85,7 @@ module _ (caller appid : Bytes) (major minor : ℕ) (items lent body table : Byt
 
 pub locating : Locating
 locating caller appid major minor items lent body table = record {
-  by_fetch_lem = fetch_located caller appid major minor items lent body table;
+  on_fetch = fetch_located caller appid major minor items lent body table;
   by_other = other_empty caller appid major minor items lent body table;
 }
 

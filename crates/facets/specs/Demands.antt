@@ -58,7 +58,7 @@ Owners =
 -- beside the decision with the same caller, AppID, record and text
 pub record LocatedBy (caller appid : Bytes) (major minor : ℕ) (items lent body table : Bytes) : Type 0 where
   -- where it is fetch: the last redirect's part of the text, or the AppID where there is none
-  pub by_fetch_lem : decide caller appid major minor items lent body table ≡ fetch → fetch_location caller appid items lent ≡ fetch_from appid items lent
+  pub on_fetch : decide caller appid major minor items lent body table ≡ fetch → fetch_location caller appid items lent ≡ fetch_from appid items lent
   -- where it is not: an empty part
   pub by_other : (decide caller appid major minor items lent body table ≡ fetch → ⊥) → fetch_location caller appid items lent ≡ []
 

@@ -15,7 +15,7 @@ use Rattle.json_text.specs.Reader.{Read, got, bad, Reader, more, behind, ◌>>=�
 use Rattle.json_text.specs.Utf8.{utf8_tail, then_tail, then_tails, multibyte_char}
 use Rattle.json_text.specs.Lexical.{unescaped, read_char, read_chars, read_string}
 use Rattle.json_text.specs.code.Places.{Peeked, read_at, place_of}
-use Rattle.json_text.specs.code.PlainString.{is_plain, is_ascii_char, AsciiString, is_short, is_unknown, in_text_lem, no_place, is_plain_lem, is_other_lem, PlainIs}
+use Rattle.json_text.specs.code.PlainString.{is_plain, is_ascii_char, AsciiString, is_short, is_unknown, in_the_text, no_place, plain_string, other_string, PlainIs}
 use Rattle.json_text.specs.declared.Next.{Next}
 use Rattle.json_text.specs.declared.Next.TheVariants.{At, Bad}
 use Rattle.json_text.proofs.Steps.{on, then_bad, one_yes, one_no, counted_at, is_one, not_one, fail_at, inside, under, above, between_tells}
@@ -353,7 +353,7 @@ pub record Scans (s : Bytes) (from i : ℕ) : Type 0 where
   pub is : read_at (many is_plain) s i ≡ read_at (many is_plain) s (from + 1)
 
 pub plain_none : (s : Bytes) (from : ℕ) → PlainIs s from Bad
-plain_none s from = record { within = no_place; is = λ x j e. is_other_lem }
+plain_none s from = record { within = no_place; is = λ x j e. other_string }
 
 pub plain_starts : (s : Bytes) (from : ℕ) → Scans s from (from + 1)
 plain_starts s from = record { above = omega arith; is = refl }
@@ -368,10 +368,10 @@ module _ {s : Bytes} {from i : ℕ} (L : Scans s from i) (h : i < length s) wher
       let a = counted_to i (scan_stop is_plain s i L.is h (sym (plain_not (get_or s i 0) k)) refl) in
       let m : plains (drop (from + 1) s) ≡ i - (from + 1) = omega arith in
       record {
-        within = in_text_lem L.above h;
+        within = in_the_text L.above h;
         is = λ x j e.
             let W = whole_at s _ (from + 1) (chars_of s from e) (rw a (peek_here k)) in
-            is_plain_lem {q = i} (omega (arith, W.end)) (W.is ∙ ap (λ (n : ℕ). take n (drop (from + 1) s)) m);
+            plain_string {q = i} (omega (arith, W.end)) (W.is ∙ ap (λ (n : ℕ). take n (drop (from + 1) s)) m);
       }
     where
       peek_here : get_or s i 0 ≡ 34 → peek (drop i s) ≡ 34

@@ -23,13 +23,13 @@ pub data AsciiString (s : Bytes) (from : ℕ) : Next → Type 0 where
 
 -- a place behind the opening quotation mark, in the text
 pub data Within (s : Bytes) (from : ℕ) : Next → Type 0 where
-  in_text_lem : {q : ℕ} → from + 1 ≤ q → q < length s → Within s from (At q)
+  in_the_text : {q : ℕ} → from + 1 ≤ q → q < length s → Within s from (At q)
   no_place : Within s from Bad
 
 -- the string `entry`, which ends before `end`: its closing quotation mark, and its bytes as they stand; or there may be escapes
 pub data Plain (s : Bytes) (from : ℕ) (entry : Bytes) (end : ℕ) : Next → Type 0 where
-  is_plain_lem : {q : ℕ} → end ≡ q + 1 → entry ≡ take (q - (from + 1)) (drop (from + 1) s) → Plain s from entry end (At q)
-  is_other_lem : Plain s from entry end Bad
+  plain_string : {q : ℕ} → end ≡ q + 1 → entry ≡ take (q - (from + 1)) (drop (from + 1) s) → Plain s from entry end (At q)
+  other_string : Plain s from entry end Bad
 
 -- the same of the string at a place, where there is one
 pub record PlainIs (s : Bytes) (from : ℕ) (r : Next) : Type 0 where
