@@ -18,7 +18,7 @@ use Rattle.json_text.proofs.Steps.{found, missed}
 use Rattle.json_values.proofs.Values.{value_string}
 use Rattle.json_values.specs.Json.{Json, array, object, to_items, to_members, read_member, read_value, value_read, listed}
 use Rattle.trusted_list.specs.TrustedList.{as_object, as_array, as_string, values_of, only, once, read_number16, Version, read_version, strings, read_ids, Listing, read_listing, listings, read_listings, read_list, is_wanted, select}
-use Rattle.trusted_list.specs.code.Slots.{Relates, Extends, Came, Once, never, one, again, Name, Names, slot_read, two_read, number_slot, NumberIs, version_slot, VersionIs, version_of, ids_at, IdsIs, no_ids, ids_held, is_string, strings_slot, Strings, ListingIs, no_listing, not_wanted, wanted_listing, listing_of, Selects, misshapen, nothing, selects, Listings, ListIs, earlier, BodyIs, no_list, list_is}
+use Rattle.trusted_list.specs.code.Slots.{Relates, Extends, Came, Once, never, one, again, Name, Names, slot_read, two_read, number_slot, NumberIs, version_slot, VersionIs, version_of, ids_at, IdsIs, no_ids, ids_held, is_string, strings_slot, Strings, ListingIs, no_listing, not_wanted, the_wanted, listing_of, Selects, misshapen, nothing, selects, Listings, ListIs, earlier, BodyIs, no_list, list_is}
 use Rattle.trusted_list.specs.declared.Slot.{Slot}
 use Rattle.trusted_list.specs.declared.Slot.TheVariants.{Absent, Held, Other, Spoiled}
 use Rattle.trusted_list.specs.declared.Two.{Two}
@@ -313,7 +313,7 @@ module _ (s : Bytes) (major minor : ℕ) where
   to_listing : (v : Json) (o : Option Listing) {x : Slot} → read_listing v ≡ o → ListingOf o x → ListingIs s major minor v x
   to_listing v none e bad_listing = no_listing e
   to_listing v (some l) e (other_listing f) = not_wanted e f
-  to_listing v (some l) e (wanted_listing f g) = wanted_listing e f g
+  to_listing v (some l) e (wanted_listing f g) = the_wanted e f g
 
   listing_tree_lem : (ms : List (Bytes × Json)) {x : Two} → Names (text "version") (text "ids") (VersionIs major minor) (IdsIs s) ms x
       → ListingIs s major minor (object (to_members ms)) (listing_of x.first x.second)
@@ -369,10 +369,10 @@ module _ (major minor : ℕ) where
     one_more misshapen z = misshapen
     one_more (nothing e) (no_listing f) = rw f misshapen
     one_more (nothing {ls} e) (not_wanted {l} f g) = rw f (nothing (select_append ls l ∙ rw (e, g)))
-    one_more (nothing {ls} e) (wanted_listing {l} f g h) = rw f (selects {xs = l.ids} (select_append ls l ∙ rw (e, g)) h)
+    one_more (nothing {ls} e) (the_wanted {l} f g h) = rw f (selects {xs = l.ids} (select_append ls l ∙ rw (e, g)) h)
     one_more (selects e k) (no_listing f) = rw f misshapen
     one_more (selects {ls} {xs} e k) (not_wanted {l} f g) = rw f (selects {xs = xs} (select_append ls l ∙ rw e) k)
-    one_more (selects {ls} {xs} e k) (wanted_listing {l} f g h) = rw f (selects {xs = xs} (select_append ls l ∙ rw e) k)
+    one_more (selects {ls} {xs} e k) (the_wanted {l} f g h) = rw f (selects {xs = xs} (select_append ls l ∙ rw e) k)
 
 module _ (s : Bytes) (at major minor : ℕ) {x : Two} {q : Found} (E : Relates (ListingIs s major minor) (read_at (read_value 14) s at) (slot_read q)) where
   pub list_item_stuck : q ≡ Wrong → Relates (Extends (Listings s major minor) x) (read_at (read_value 14) s at) (two_read Stuck)

@@ -132,7 +132,7 @@ pub record Strings (vs : List Json) (x : Two) : Type 0 where
 pub data ListingIs (s : Bytes) (major minor : ℕ) (v : Json) : Slot → Type 0 where
   no_listing : read_listing v ≡ none → ListingIs s major minor v Spoiled
   not_wanted : {l : Listing} → read_listing v ≡ some l → is_wanted major minor l.version ≡ false → ListingIs s major minor v Other
-  wanted_listing : {l : Listing} {p : ℕ} → read_listing v ≡ some l → is_wanted major minor l.version ≡ true → ids_at s p ≡ some l.ids → ListingIs s major minor v (Held p)
+  the_wanted : {l : Listing} {p : ℕ} → read_listing v ≡ some l → is_wanted major minor l.version ≡ true → ids_at s p ≡ some l.ids → ListingIs s major minor v (Held p)
 
 -- of what is held of `version` and `ids`
 unfoldable pub listing_of : Slot → Slot → Slot
