@@ -1,5 +1,6 @@
 // Reads the files `appid`, `table` and `body`, wants version 1.0, and prints the cleaned list and an LF; on refusal `refused `,
 // the number, LF. A file that can't be opened counts as empty. A table of more than 65,536 bytes is treated as bad.
+// A read or a write that fails ends it with that error.
 #![tactic(auto)]
 
 ghost use Rattle.std.specs.Prelude.{◌≤◌, length, IfOk};
