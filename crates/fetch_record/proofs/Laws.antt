@@ -12,3 +12,12 @@ pub ruleset record_laws = (end_none, end_long, end_kind, end_answer, end_bad, co
 pub ruleset more_laws = (count_more)
 
 pub ruleset laws = (redirect_is, hop_inside, hop_long, hop_open, hop_end, hop_bad, hop_good, hops_start, hops_end, hops_refused, hops_more, after_refused, after_passed, placed_unanswered, placed_answered, settle_bad, settle_fetch, settle_answered, target_bad, target_unanswered, target_answered, last_none, last_part, last_long, rules)
+
+-- for a return: its law alone, so that a search that finds nothing ends
+pub ruleset fields_laws = (fields_are)
+
+pub ruleset redirect_laws = (redirect_read_lem)
+
+pub ruleset answer_laws = (answer_read_lem)
+
+pub ruleset long_laws = (end_long)

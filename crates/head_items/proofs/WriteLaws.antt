@@ -163,3 +163,10 @@ pub ruleset put_laws = (redirect_put, rules)
 pub ruleset redirect_laws = (redirect_room, redirect_full, rules)
 
 pub ruleset head_laws = (head_refused, head_answer, head_low, head_high, head_redirect, rules)
+
+-- for a return: its law alone, so that a search that finds nothing ends
+pub ruleset room_laws = (room_start)
+
+pub ruleset item_laws = (item_is)
+
+pub ruleset written_laws = (answer_written)

@@ -171,3 +171,6 @@ unfolding fits_byte
 fits_other p b n = rw (ne_eqb p 48 n)
 
 pub ruleset byte_laws = (blank_space, blank_tab, text_low, text_high, alphanumeric_low, alphanumeric_digit, alphanumeric_other, alphanumeric_letter, among_end, among_here, among_more, tchar_alphanumeric, tchar_mark, in_blank, in_text_lem, in_tchar, in_other, scan_end, scan_stop, scan_more, trim_starts, trim_none, trim_more, trim_ends, fits_digit, fits_other, by_starts, by_ends, by_differs, by_more, rules)
+
+-- for a return: its law alone, so that a search that finds nothing ends
+pub ruleset mark_laws = (tchar_mark)

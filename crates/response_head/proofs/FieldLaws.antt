@@ -259,3 +259,8 @@ module _ (name v : Bytes) (from to : ℕ) (x : Seen) {a : Bool} (e : a ≡ same_
       seen_other l = rw (← e, f, ← g, h, ← k, l)
 
 pub ruleset field_laws = (status_short, status_bad, status_is, field_nameless, field_ends, field_other, field_from, field_is, type_end, type_to, type_is, first_right, first_wrong, stays_right, stays_wrong, right_unseen, right_right, right_wrong, place_new, place_second, place_several, seen_authorized, seen_typed, seen_location, seen_other, rules)
+
+-- for a return: its law alone, so that a search that finds nothing ends
+pub ruleset type_laws = (type_is)
+
+pub ruleset colon_laws = (field_other)

@@ -1,5 +1,5 @@
 -- `fetch_record::read_end` meets its contract. Assumes nothing.
-use Rattle.fetch_record.proofs.Laws.{record_laws}
+use Rattle.fetch_record.proofs.Laws.{record_laws, long_laws}
 use Rattle.fetch_record.proofs.read_end.Statement.{statement}
 use Rattle.fetch_record.proofs.read_end.Tie as tie
 
@@ -10,7 +10,7 @@ read_end_spec =
     {- returns-then-s-eq0 -}
     (λ c. search record_laws)
     {- returns-then-s-ne4 -}
-    (λ c. search record_laws)
+    (λ c. search long_laws)
     {- bounds-s-0 -}
     (λ c. search record_laws)
     {- returns-then-s-ne2 -}

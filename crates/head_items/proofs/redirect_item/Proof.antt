@@ -1,5 +1,5 @@
 -- `head_items::redirect_item` meets its contract.
-use Rattle.head_items.proofs.WriteLaws.{byte_laws}
+use Rattle.head_items.proofs.WriteLaws.{byte_laws, item_laws}
 use Rattle.head_items.proofs.redirect_item.Statement.{statement}
 use Rattle.head_items.proofs.redirect_item.Tie as tie
 
@@ -22,4 +22,4 @@ redirect_item_spec =
     {- low-requires-3 -}
     (λ c κs. search byte_laws)
     {- returns -}
-    (λ c. search byte_laws))
+    (λ c. search item_laws))

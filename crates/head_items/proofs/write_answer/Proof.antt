@@ -1,5 +1,5 @@
 -- `head_items::write_answer` meets its contract.
-use Rattle.head_items.proofs.WriteLaws.{answer_laws}
+use Rattle.head_items.proofs.WriteLaws.{answer_laws, written_laws}
 use Rattle.head_items.proofs.write_answer.Statement.{statement}
 use Rattle.head_items.proofs.write_answer.Tie as tie
 
@@ -22,4 +22,4 @@ write_answer_spec =
     {- shape_of-item -}
     (λ c. search answer_laws)
     {- returns -}
-    (λ c. search answer_laws))
+    (λ c. search written_laws))

@@ -1,5 +1,5 @@
 -- `response_head::is_list_type` meets its contract.
-use Rattle.response_head.proofs.FieldLaws.{field_laws}
+use Rattle.response_head.proofs.FieldLaws.{field_laws, type_laws}
 use Rattle.response_head.proofs.is_list_type.Statement.{statement}
 use Rattle.response_head.proofs.is_list_type.Tie as tie
 
@@ -26,4 +26,4 @@ is_list_type_spec =
     {- equal_no_case-requires -}
     (λ c κs. search field_laws)
     {- returns -}
-    (λ c. search field_laws))
+    (λ c. search type_laws))

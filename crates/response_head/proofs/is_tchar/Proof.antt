@@ -1,5 +1,5 @@
 -- `response_head::is_tchar` meets its contract.
-use Rattle.response_head.proofs.ByteLaws.{byte_laws}
+use Rattle.response_head.proofs.ByteLaws.{byte_laws, mark_laws}
 use Rattle.response_head.proofs.is_tchar.Statement.{statement}
 use Rattle.response_head.proofs.is_tchar.Tie as tie
 
@@ -14,4 +14,4 @@ is_tchar_spec =
     {- is_among-requires -}
     (λ c κs. search byte_laws)
     {- returns -}
-    (λ c. search byte_laws))
+    (λ c. search mark_laws))

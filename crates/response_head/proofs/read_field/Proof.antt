@@ -1,5 +1,5 @@
 -- `response_head::read_field` meets its contract.
-use Rattle.response_head.proofs.FieldLaws.{field_laws}
+use Rattle.response_head.proofs.FieldLaws.{field_laws, colon_laws}
 use Rattle.response_head.proofs.read_field.Statement.{statement}
 use Rattle.response_head.proofs.read_field.Tie as tie
 
@@ -16,7 +16,7 @@ read_field_spec =
     {- bounds-line-colon -}
     (λ c. search field_laws)
     {- returns-then-line-colon-ne58 -}
-    (λ c. search field_laws)
+    (λ c. search colon_laws)
     {- overflow_add-colon -}
     (λ c. search field_laws)
     {- run_end-from-requires -}

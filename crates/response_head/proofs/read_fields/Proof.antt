@@ -3,7 +3,7 @@ use Prim.Native.Nat.{◌-◌}
 use lib.ListN.{length, drop}
 use Rattle.response_head.specs.ResponseHead.{lines_of, read_fields}
 use Rattle.response_head.proofs.HeadLaws.{Gathering}
-use Rattle.response_head.proofs.HeadLaws.{gather_laws}
+use Rattle.response_head.proofs.HeadLaws.{gather_laws, last_laws}
 use Rattle.response_head.proofs.read_fields.Statement.{statement}
 use Rattle.response_head.proofs.read_fields.Tie as tie
 
@@ -34,7 +34,7 @@ read_fields_spec =
     {- overflow_sub-s -}
     (λ c. search gather_laws)
     {- returns-then-s-end-eq2 -}
-    (λ c. search gather_laws)
+    (λ c. search last_laws)
     {- returns-then-end-at -}
     (λ c. search gather_laws)
     {- field_seen-requires -}

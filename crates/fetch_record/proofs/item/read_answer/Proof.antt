@@ -1,5 +1,5 @@
 -- `fetch_record::read_answer` meets its contract. Assumes nothing.
-use Rattle.fetch_record.proofs.Laws.{item_laws}
+use Rattle.fetch_record.proofs.Laws.{item_laws, answer_laws}
 use Rattle.fetch_record.proofs.item.read_answer.Statement.{statement}
 use Rattle.fetch_record.proofs.item.read_answer.Tie as tie
 
@@ -20,4 +20,4 @@ read_answer_spec =
     {- returns-then-seen-gt1 -}
     (λ c. search item_laws)
     {- returns -}
-    (λ c. search item_laws))
+    (λ c. search answer_laws))

@@ -1,5 +1,5 @@
 -- `fetch_record::read_redirect` meets its contract. Assumes nothing.
-use Rattle.fetch_record.proofs.Laws.{item_laws}
+use Rattle.fetch_record.proofs.Laws.{item_laws, redirect_laws}
 use Rattle.fetch_record.proofs.item.read_redirect.Statement.{statement}
 use Rattle.fetch_record.proofs.item.read_redirect.Tie as tie
 
@@ -26,4 +26,4 @@ read_redirect_spec =
     {- redirect_in-requires -}
     (λ c κs. search item_laws)
     {- returns -}
-    (λ c. search item_laws))
+    (λ c. search redirect_laws))

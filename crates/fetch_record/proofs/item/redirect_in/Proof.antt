@@ -1,5 +1,5 @@
 -- `fetch_record::redirect_in` meets its contract.
-use Rattle.fetch_record.proofs.Laws.{item_laws}
+use Rattle.fetch_record.proofs.Laws.{item_laws, fields_laws}
 use Rattle.fetch_record.proofs.item.redirect_in.Statement.{statement}
 use Rattle.fetch_record.proofs.item.redirect_in.Tie as tie
 
@@ -28,4 +28,4 @@ redirect_in_spec =
     {- bounds-s-2 -}
     (λ c. search item_laws)
     {- returns -}
-    (λ c. search item_laws))
+    (λ c. search fields_laws))
