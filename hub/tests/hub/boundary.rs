@@ -126,12 +126,16 @@ fn other_meanings(tokens: &[&str], side: &mut Side) {
     }
 }
 
+/// What stands before the name of an export.
+const EXPORTED: [&str; 13] =
+    ["#", "[", "unsafe", "(", "no_mangle", ")", "]", "pub", "extern", "\"", "C", "\"", "fn"];
+
 /// What the library exports, its parameters as C passes them.
 fn library(source: &str) -> Side {
     let (tokens, mut side) = (tokens(source), Side::default());
-    hiding(source, &["[no_mangle", "[repr(C)"], &mut side);
+    hiding(source, &["![tactic(auto)", "[derive(Drop)", "[unsafe(no_mangle)", "[repr(C)"], &mut side);
     structs(&tokens, &mut side);
-    let marked = behind(&tokens, &["#", "[", "no_mangle", "]", "pub", "extern", "\"", "C", "\"", "fn"]);
+    let marked = behind(&tokens, &EXPORTED);
     if marked.len() != count(&tokens, "extern") || marked.len() != count(&tokens, "no_mangle") {
         side.faults.push("an export without its marks".to_owned());
     }
@@ -393,13 +397,13 @@ fn damaged_exports_are_seen() {
         ("fn facets_tally", "fn facets_count", "facets_tally is not exported"),
         ("fn facets_tally", "fn facets_count", "facets_count is not declared"),
         ("fn facets_decide_place", "fn facets_decide", "facets_decide is exported twice"),
-        ("#[no_mangle]", "", "an export without its marks"),
-        ("#[no_mangle]", "", "facets_private_label is not exported"),
+        ("#[unsafe(no_mangle)]", "", "an export without its marks"),
+        ("#[unsafe(no_mangle)]", "", "facets_private_label is not exported"),
         ("Cleaned {\n    pub refusal: u32,", "Cleaned {", "Cleaned has 4 bytes"),
         ("pub start: u32,", "pub start: u64,", "Location has 16 bytes"),
         ("pub struct Tally", "pub struct Counts", "Counts has 24 bytes"),
-        ("#[no_mangle]", "/*\n#[no_mangle]", "a block comment"),
-        ("#[no_mangle]", "#[cfg(unix)]\n#[no_mangle]", "the attribute #[cfg(unix)]"),
+        ("#[unsafe(no_mangle)]", "/*\n#[unsafe(no_mangle)]", "a block comment"),
+        ("#[unsafe(no_mangle)]", "#[cfg(unix)]\n#[unsafe(no_mangle)]", "the attribute #[cfg(unix)]"),
         ("#[repr(C)]", "#[repr(C, packed)]", "the attribute #[repr(C,packed)]"),
     ] {
         damaged(LIBRARY, old, new, expected);
