@@ -1,4 +1,5 @@
 -- The sets of laws that answer needs, for `search number_laws` and so on.
+use native.Mathlib.Omega.{arith}
 use borrow.Author.Rules.{rules}
 use Rattle.json_text.proofs.Steps.{peeked_at, peeked_past, fits_next, fits_either, fits_below}
 use Rattle.json_text.proofs.Scan.{scan_end, scan_stop, scan_more}
@@ -36,3 +37,18 @@ pub ruleset string_laws = (char_bad, char_at, char_two, char_plain, spells_start
 pub ruleset plain_laws = (plain_none, plain_starts, plain_found, plain_more, rules)
 
 pub ruleset decoding_laws = (put_full, put_one, part_starts, part_end, part_past, part_more, code_one, code_two, code_three, code_four, held_wrong, held_code, held_no, held_plain, decode_wrong, decode_starts, decode_end, decode_bad, decode_less, decode_more, name_wrong, name_over, name_told, fits)
+
+-- for a return or a loop: its law alone, so that a search that finds nothing ends
+pub ruleset decimal_laws = (hex_decimal)
+
+pub ruleset lower_laws = (hex_lower)
+
+pub ruleset high_laws = (code_high)
+
+pub ruleset space_laws = (plain_20)
+
+pub ruleset e0_laws = (wide_e0)
+
+pub ruleset more_laws = (plain_more, arith)
+
+pub ruleset other_laws = (ascii_other)

@@ -1,5 +1,5 @@
 -- `json_text::read_code_point` meets its contract.
-use Rattle.json_text.proofs.Laws.{escape_laws, hex_fits}
+use Rattle.json_text.proofs.Laws.{escape_laws, hex_fits, high_laws}
 use Rattle.json_text.proofs.escapes.read_code_point.Statement.{statement}
 use Rattle.json_text.proofs.escapes.read_code_point.Tie as tie
 
@@ -18,7 +18,7 @@ read_code_point_spec =
     {- returns-then-c-lt55296 -}
     (λ c. search escape_laws)
     {- returns-then-c-gt57343 -}
-    (λ c. search escape_laws)
+    (λ c. search high_laws)
     {- returns-then-c-gt56319 -}
     (λ c. search escape_laws)
     {- skip_word-requires -}

@@ -2,7 +2,7 @@
 use Prim.Native.Nat.{◌-◌}
 use lib.ListN.{length}
 use Rattle.json_text.proofs.PlainSteps.{Scans}
-use Rattle.json_text.proofs.Laws.{plain_laws}
+use Rattle.json_text.proofs.Laws.{plain_laws, more_laws}
 use Rattle.json_text.proofs.strings.plain_end.Statement.{statement}
 use Rattle.json_text.proofs.strings.plain_end.Tie as tie
 
@@ -35,6 +35,6 @@ plain_end_spec =
     {- loop-i-smaller -}
     (λ c. search plain_laws)
     {- loop-i-preserved -}
-    (λ c. search plain_laws)
+    (λ c. search more_laws)
     {- returns -}
     (λ c. search plain_laws))

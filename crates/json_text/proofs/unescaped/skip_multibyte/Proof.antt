@@ -1,5 +1,5 @@
 -- `json_text::skip_multibyte` meets its contract.
-use Rattle.json_text.proofs.Laws.{fits, unescaped_laws}
+use Rattle.json_text.proofs.Laws.{fits, unescaped_laws, e0_laws}
 use Rattle.json_text.proofs.unescaped.skip_multibyte.Statement.{statement}
 use Rattle.json_text.proofs.unescaped.skip_multibyte.Tie as tie
 
@@ -22,7 +22,7 @@ skip_multibyte_spec =
     {- skip_with_tail-requires -}
     (λ c κs. search fits)
     {- returns-then-b-eq224 -}
-    (λ c. search unescaped_laws)
+    (λ c. search e0_laws)
     {- overflow_add-from-then-b-le236 -}
     (λ c. search fits)
     {- skip_with_tail-requires-then-b-le236 -}

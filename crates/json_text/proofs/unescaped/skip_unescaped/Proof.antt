@@ -1,5 +1,5 @@
 -- `json_text::skip_unescaped` meets its contract.
-use Rattle.json_text.proofs.Laws.{fits, unescaped_laws}
+use Rattle.json_text.proofs.Laws.{fits, unescaped_laws, space_laws}
 use Rattle.json_text.proofs.unescaped.skip_unescaped.Statement.{statement}
 use Rattle.json_text.proofs.unescaped.skip_unescaped.Tie as tie
 
@@ -14,7 +14,7 @@ skip_unescaped_spec =
     {- overflow_add-result -}
     (λ c. search fits)
     {- returns-then-b-le33 -}
-    (λ c. search unescaped_laws)
+    (λ c. search space_laws)
     {- returns-then-b-eq34 -}
     (λ c. search unescaped_laws)
     {- overflow_add-result-then-b-le91 -}
