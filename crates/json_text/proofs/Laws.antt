@@ -1,4 +1,5 @@
 -- The sets of laws that answer needs, for `search number_laws` and so on.
+use native.Mathlib.Omega.{arith}
 use borrow.Author.Rules.{rules}
 use Rattle.json_text.proofs.Steps.{peeked_at, peeked_past, fits_next, fits_either, fits_below}
 use Rattle.json_text.proofs.Scan.{scan_end, scan_stop, scan_more}
@@ -48,6 +49,6 @@ pub ruleset space_laws = (plain_20)
 
 pub ruleset e0_laws = (wide_e0)
 
-pub ruleset more_laws = (plain_more)
+pub ruleset more_laws = (plain_more, arith)
 
 pub ruleset other_laws = (ascii_other)
