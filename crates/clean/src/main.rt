@@ -48,25 +48,20 @@ fn print_list(rt: &impl Print, out: &[u8], n: usize) -> io::Result<()> {
     Ok(())
 }
 
-fn print_cleaned(
-    rt: &(impl Print + AllocGlobal),
-    appid: &[u8],
-    body: &[u8],
-    table: &[u8],
-) -> io::Result<()> {
-    let mut out = vec![in rt.alloc(); 0u8; 65536]?;
+fn print_cleaned(rt: &impl Print, appid: &[u8], body: &[u8], table: &[u8]) -> io::Result<()> {
+    let mut out = [0u8; 65536];
     match cleaning::clean(appid, 1, 0, body, table, &mut out) {
         Output::Refused(x) => print_refusal(rt, x),
         Output::Length(n) => print_list(rt, &out, n),
     }
 }
 
-fn clean_files(rt: &(impl Files + Print + AllocGlobal)) -> io::Result<()> {
-    let mut appid = vec![in rt.alloc(); 0u8; 2049]?;
+fn clean_files(rt: &(impl Files + Print)) -> io::Result<()> {
+    let mut appid = [0u8; 2049];
     let a = read_file(rt, "appid", &mut appid)?;
-    let mut body = vec![in rt.alloc(); 0u8; 65537]?;
+    let mut body = [0u8; 65537];
     let b = read_file(rt, "body", &mut body)?;
-    let mut table = vec![in rt.alloc(); 0u8; 65537]?;
+    let mut table = [0u8; 65537];
     let t = read_file(rt, "table", &mut table)?;
     if 65536 < t {
         // no rule, so a bad table

@@ -17,7 +17,7 @@ use Rattle.trusted_list.specs.code.Slots.{Answers}
 use Rattle.trusted_list.specs.declared.Selection.{Selection}
 use Rattle.trusted_list.specs.declared.Selection.TheVariants.{Refused as ListRefused, Ids}
 use Rattle.fetch_record.specs.Record.{Redirect, last_hop}
-use Rattle.fetch_record.specs.code.Meaning.{answer_of as responseOf, target, TargetOf, of_none, of_hop, Targets}
+use Rattle.fetch_record.specs.code.Meaning.{answer_of as response_of, target, TargetOf, of_none, of_hop, Targets}
 use Rattle.fetch_record.specs.declared.item.Answer.{Answer as Response}
 use Rattle.fetch_record.specs.declared.Target.{Target}
 use Rattle.fetch_record.specs.declared.Target.TheVariants.{NoRedirect, Part}
@@ -71,30 +71,30 @@ unfolding answer_of
 refused_is x = refl
 
 module _ (caller appid : Bytes) (major minor : ℕ) (body table : Bytes) (a : Response) where
-  pub late_status : (a.status ≡ 200 → ⊥) → answer_of (Refused NotFetched) ≡ by_list caller appid major minor body table (list_due (responseOf a))
-  unfolding answer_of by_list late_refusal responseOf
+  pub late_status : (a.status ≡ 200 → ⊥) → answer_of (Refused NotFetched) ≡ by_list caller appid major minor body table (list_due (response_of a))
+  unfolding answer_of by_list late_refusal response_of
   late_status n = rw (ne_eqb a.status 200 n)
 
   module _ (s : a.status ≡ 200) where
-    pub late_type : a.type_seen ≡ false → answer_of (Refused WrongType) ≡ by_list caller appid major minor body table (list_due (responseOf a))
-    unfolding answer_of by_list late_refusal responseOf
+    pub late_type : a.type_seen ≡ false → answer_of (Refused WrongType) ≡ by_list caller appid major minor body table (list_due (response_of a))
+    unfolding answer_of by_list late_refusal response_of
     late_type n = rw (eq-eqb a.status 200 s, n)
 
     module _ (t : a.type_seen ≡ true) {q : Selection} (A : Answers major minor body q) where
       by_refusal : (o : Option Refusal) → list_refusal major minor body ≡ o
-          → by_list caller appid major minor body table (list_due (responseOf a))
+          → by_list caller appid major minor body table (list_due (response_of a))
           ≡ unless (o or_else (BadTable when is_none (read_table table))) (by_place (first_match caller (kept appid table (entries major minor body))))
-      unfolding by_list late_refusal responseOf
+      unfolding by_list late_refusal response_of
       by_refusal o e = rw (eq-eqb a.status 200 s, t, e)
 
-      pub late_refused : {x : Refusal} → q ≡ ListRefused x → answer_of (Refused x) ≡ by_list caller appid major minor body table (list_due (responseOf a))
+      pub late_refused : {x : Refusal} → q ≡ ListRefused x → answer_of (Refused x) ≡ by_list caller appid major minor body table (list_due (response_of a))
       late_refused {x} h = refused_is x ∙ sym (by_refusal (some x) (list_refused A h))
 
       module _ {p : ℕ} (h : q ≡ Ids p) where
         pub late_there : IdsThere body p
         late_there = record { all = entries major minor body; is = list_ids A h }
 
-        pub late_ids : (r : Answer) → answer_of r ≡ by_entries caller appid table (entries_at body p) → answer_of r ≡ by_list caller appid major minor body table (list_due (responseOf a))
+        pub late_ids : (r : Answer) → answer_of r ≡ by_entries caller appid table (entries_at body p) → answer_of r ≡ by_list caller appid major minor body table (list_due (response_of a))
         late_ids r g = g ∙ ap (by_entries caller appid table) (entries_of body p (list_ids A h)) ∙ by (read_table table) refl ∙ sym (by_refusal none (list_accepted A h))
           where
             by : (o : Option (List Rule)) → read_table table ≡ o → by_entries caller appid table (entries major minor body)
@@ -117,7 +117,7 @@ module _ (caller appid : Bytes) (major minor : ℕ) (items lent body table : Byt
         go settled_so h = let z : ◌≡◌ {A = ℕ} 0 1 = cc in absurd (omega arith)
         go (due_there {end = k} E) h = let x : k ≡ end = cc in rw x at E
 
-    pub decide_due : (r : Answer) → answer_of r ≡ by_list caller appid major minor body table (list_due (responseOf a)) → answer_of r ≡ decide caller appid major minor items lent body table
+    pub decide_due : (r : Answer) → answer_of r ≡ by_list caller appid major minor body table (list_due (response_of a)) → answer_of r ≡ decide caller appid major minor items lent body table
     unfolding decide stage_of
     decide_due r g = let x = rw h at B.is in g ∙ ap (by_list caller appid major minor body table) x
 

@@ -17,7 +17,7 @@ use Rattle.matching.proofs.Compared.{same_origin_host}
 use Rattle.ascii.proofs.Compare.{same_eq}
 use Rattle.refusals.specs.declared.Refusal.{Refusal}
 use Rattle.trusted_list.specs.TrustedList.{entries}
-use Rattle.fetch_record.specs.Fetching.{Fetching, refused as hopRefused, fetch as mustFetch, answered, fetching}
+use Rattle.fetch_record.specs.Fetching.{Fetching, refused as hop_refused, fetch as must_fetch, answered, fetching}
 use Rattle.entries.specs.Causes.{labels_agree, is_other_label, kept}
 use Rattle.entries.proofs.KeptTests.{is_kept, kept_passes, kept_each}
 use Rattle.decision.specs.SameLabel.{SameLabel}
@@ -42,8 +42,8 @@ either P false p q = q
 
 on_fetch : (f : Fetching) → NoRule4 (by_fetch f)
 unfolding by_fetch
-on_fetch (hopRefused r) = tt
-on_fetch mustFetch = tt
+on_fetch (hop_refused r) = tt
+on_fetch must_fetch = tt
 on_fetch (answered a) = tt
 
 pub before_list_lem : (caller appid items lent : Bytes) → NoRule4 (before_list caller appid items lent)

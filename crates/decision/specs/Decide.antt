@@ -9,7 +9,7 @@ use Rattle.refusals.specs.declared.Refusal.{Refusal}
 use Rattle.refusals.specs.declared.Refusal.TheVariants.{Stranger, BadAppId, ForeignAppId, NotFetched, WrongType, BadTable, NotListed}
 use Rattle.trusted_list.specs.TrustedList.{list_refusal, entries}
 use Rattle.fetch_record.specs.Record.{Answer as Response}
-use Rattle.fetch_record.specs.Fetching.{Fetching, refused as hopRefused, fetch as mustFetch, answered, fetching}
+use Rattle.fetch_record.specs.Fetching.{Fetching, refused as hop_refused, fetch as must_fetch, answered, fetching}
 use Rattle.entries.specs.AppId.{is_bad_app_id}
 use Rattle.entries.specs.Causes.{kept}
 use Rattle.decision.specs.Answer.{Answer, rule1, rule2, rule3, rule4, fetch, refused}
@@ -23,8 +23,8 @@ pub data Stage : Type 0 where
 
 -- refusal 4; then hop by hop 5 before 6; fetch, where the record has no answer
 unfoldable pub by_fetch : Fetching → Stage
-by_fetch (hopRefused r) = settled (refused r)
-by_fetch mustFetch = settled fetch
+by_fetch (hop_refused r) = settled (refused r)
+by_fetch must_fetch = settled fetch
 by_fetch (answered a) = list_due a
 
 unfoldable pub before_list : Bytes → Bytes → Bytes → Bytes → Stage

@@ -6,7 +6,7 @@ ghost use Rattle.entries.specs.Causes.{kept};
 ghost use Rattle.entries.specs.code.Owner.{HostEnds, Owned};
 ghost use Rattle.entries.specs.code.Reading.{IdsThere, entries_at};
 ghost use Rattle.fetch_record.specs.Record.{last_hop};
-ghost use Rattle.fetch_record.specs.code.Meaning.{answer_of as responseOf};
+ghost use Rattle.fetch_record.specs.code.Meaning.{answer_of as response_of};
 ghost use Rattle.decision.specs.Decide.{first_match, by_list, decide, list_due};
 ghost use Rattle.decision.specs.Location.{fetch_from, fetch_location, source_from, fetch_source};
 ghost use Rattle.decision.specs.code.Meaning.{answer_of, Before, match_of, by_entries, Locates};
@@ -141,7 +141,7 @@ fn by_list(
     table: &[u8],
 ) -> Answer
     requires { HostEnds appid.now end }
-    ensures { answer_of result ≡ by_list caller.now appid.now major minor body.now table.now (list_due (responseOf response)) }
+    ensures { answer_of result ≡ by_list caller.now appid.now major minor body.now table.now (list_due (response_of response)) }
 {
     if response.status != 200 {
         return Answer::Refused(Refusal::NotFetched);

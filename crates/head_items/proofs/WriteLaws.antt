@@ -68,26 +68,26 @@ module _ (status : ℕ) (typed : Bool) (item : Bytes) where
 
 -- ---- a redirect
 
-module _ (start size itemRoom textRoom : ℕ) where
-  pub room_item : {n : ℕ} → itemRoom < n → n ≤ 8 → false ≡ has_room start size itemRoom textRoom
+module _ (start size item_room text_room : ℕ) where
+  pub room_item : {n : ℕ} → item_room < n → n ≤ 8 → false ≡ has_room start size item_room text_room
   unfolding has_room
-  room_item h k = rw (lt-leb 8 itemRoom (omega arith))
+  room_item h k = rw (lt-leb 8 item_room (omega arith))
 
-  pub room_text : textRoom < size → false ≡ has_room start size itemRoom textRoom
+  pub room_text : text_room < size → false ≡ has_room start size item_room text_room
   unfolding has_room
-  room_text h = rw (lt-leb size textRoom h, and-false (leb 8 itemRoom))
+  room_text h = rw (lt-leb size text_room h, and-false (leb 8 item_room))
 
-  pub room_start : 8 ≤ itemRoom → size ≤ textRoom → leb start 65535 ≡ has_room start size itemRoom textRoom
+  pub room_start : 8 ≤ item_room → size ≤ text_room → leb start 65535 ≡ has_room start size item_room text_room
   unfolding has_room
-  room_start h k = rw (le-leb 8 itemRoom h, le-leb size textRoom k)
+  room_start h k = rw (le-leb 8 item_room h, le-leb size text_room k)
 
 -- what it says where it holds
-record Room (start size itemRoom textRoom : ℕ) : Type 0 where
-  for_item : 8 ≤ itemRoom
-  for_text : size ≤ textRoom
+record Room (start size item_room text_room : ℕ) : Type 0 where
+  for_item : 8 ≤ item_room
+  for_text : size ≤ text_room
   for_start : start ≤ 65535
 
-room_told : (start size itemRoom textRoom : ℕ) → has_room start size itemRoom textRoom ≡ true → Room start size itemRoom textRoom
+room_told : (start size item_room text_room : ℕ) → has_room start size item_room text_room ≡ true → Room start size item_room text_room
 unfolding has_room
 room_told start size i t e =
     let p = (and-eq-true_iff (leb 8 i && leb size t) (leb start 65535)).0 e in

@@ -2,7 +2,7 @@
 use Rattle.std.specs.Prelude.{◌≡◌, Bool, List, [], ◌∷◌, ◌++◌, map, ℕ, ◌+◌, ◌≤◌, length, take, drop}
 use Rattle.std.proofs.Math.Option.{Option, none, some}
 use Rattle.ascii.specs.Ascii.{Bytes}
-use Rattle.fetch_record.specs.Record.{Redirect, Answer, Fetched, location as locationIn, read_record}
+use Rattle.fetch_record.specs.Record.{Redirect, Answer, Fetched, location as location_in, read_record}
 use Rattle.response_head.specs.ResponseHead.{Head, redirect, answer, read_head}
 use Rattle.head_items.specs.HeadItem.{written, head_item}
 
@@ -35,7 +35,7 @@ pub record Item (start : ℕ) (h : Head) (item : Bytes) : Type 0 where
 
 -- a redirect of a record, as its head says it: status, authorized header, and the Location, its part of the lent text
 abbrev pub redirect_said : Bytes → Redirect → Head
-redirect_said lent r = redirect r.status r.authorized (locationIn lent r)
+redirect_said lent r = redirect r.status r.authorized (location_in lent r)
 
 abbrev pub answer_said : Option Answer → List Head
 answer_said none = []

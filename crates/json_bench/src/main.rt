@@ -51,7 +51,7 @@ fn read_full(reader: &mut impl Read, buf: &mut [u8]) -> io::Result<usize>
 }
 
 fn main(rt: HostRuntime) -> io::Result<()> {
-    let mut buf = vec![in rt.alloc(); 0u8; 65536]?;
+    let mut buf = [0u8; 65536];
     let n = read_full(&mut rt.reader(), &mut buf)?;
     println!(rt; "{} readable", turns(&mut buf, n))
 }

@@ -7,7 +7,7 @@ use Prim.Native.Nat.{ℕ, suc, ◌+◌, ◌-◌, ◌≤◌, ◌<◌}
 use native.Mathlib.Omega.{arith}
 use lib.ListN.{length, drop, length-drop}
 use Rattle.ascii.specs.Ascii.{Bytes, between, among}
-use Rattle.json_text.specs.Reader.{Read, got, bad, Reader, more, behind, ◌>>=◌, satisfy, fail, peek, ifNext◌then◌else◌, lead◌to◌then◌else◌, mapped, as_written, verbatim, counted}
+use Rattle.json_text.specs.Reader.{Read, got, bad, Reader, more, behind, ◌>>=◌, satisfy, fail, peek, if_next◌then◌else◌, lead◌to◌then◌else◌, mapped, as_written, verbatim, counted}
 use Rattle.json_text.specs.Utf8.{utf8_tail, multibyte_char, encode_utf8}
 use Rattle.json_text.specs.Lexical.{unescaped, escaped, read_char, read_chars, read_string}
 use Rattle.json_text.specs.code.Places.{Peeked, read_at, place_of, point_of}
@@ -95,11 +95,11 @@ unfolding unescaped
 ahead_plain l = ahead_lead 0x20 0x21 _ _ l (ahead_lead 0x23 0x5B _ _ l (ahead_lead 0x5D 0x7F _ _ l (ahead_wide l)))
 
 pub ahead_char : (l : Bytes) → Ahead (read_char l)
-unfolding read_char ifNext◌then◌else◌ verbatim
+unfolding read_char if_next◌then◌else◌ verbatim
 ahead_char l = ahead_if (among (92 ∷ []) (peek l)) _ _ (ahead_one (among (92 ∷ [])) _ l) (ahead_written l (unescaped l) (ahead_plain l))
 
 no_char : read_char [] ≡ bad
-unfolding read_char ifNext◌then◌else◌ verbatim peek unescaped multibyte_char lead◌to◌then◌else◌ fail as_written
+unfolding read_char if_next◌then◌else◌ verbatim peek unescaped multibyte_char lead◌to◌then◌else◌ fail as_written
 no_char = refl
 
 moved : {A : Type 0} (r : Read A) (i : ℕ) {a : A} {j : ℕ} → Ahead r → more i r ≡ got a j → i < j

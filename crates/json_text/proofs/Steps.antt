@@ -15,7 +15,7 @@ use lib.Dec.{eqb, leb}
 use lib.ListN.{length, get_or, drop, drop_of_length-le}
 use lib.Seq.{drop-cons, drop-drop}
 use Rattle.ascii.specs.Ascii.{Bytes, between, among}
-use Rattle.json_text.specs.Reader.{Read, got, bad, Reader, more, behind, ◌>>=◌, give, fail, peek, satisfy, ifNext◌then◌else◌, lead◌to◌then◌else◌, either_read, ◌or◌, mapped, ◌giving◌, as_written, verbatim, counted}
+use Rattle.json_text.specs.Reader.{Read, got, bad, Reader, more, behind, ◌>>=◌, give, fail, peek, satisfy, if_next◌then◌else◌, lead◌to◌then◌else◌, either_read, ◌or◌, mapped, ◌giving◌, as_written, verbatim, counted}
 use Rattle.json_text.specs.code.Places.{Peeked, read_at, place_of, point_of}
 use Rattle.json_text.specs.declared.Next.{Next}
 use Rattle.json_text.specs.declared.Next.TheVariants.{At, Bad}
@@ -152,12 +152,12 @@ module _ {s : Bytes} {i b : ℕ} (g : Peeked s i b) where
   one_no f h = rw (← g.is, h)
 
   module _ {A : Type 0} (p q : Reader A) where
-    pub next_yes : (bytes : Bytes) → among bytes b ≡ true → read_at (ifNext bytes then p else q) s i ≡ read_at p s i
-    unfolding read_at ifNext◌then◌else◌
+    pub next_yes : (bytes : Bytes) → among bytes b ≡ true → read_at (if_next bytes then p else q) s i ≡ read_at p s i
+    unfolding read_at if_next◌then◌else◌
     next_yes bytes h = rw (← g.is, h)
 
-    pub next_no : (bytes : Bytes) → among bytes b ≡ false → read_at (ifNext bytes then p else q) s i ≡ read_at q s i
-    unfolding read_at ifNext◌then◌else◌
+    pub next_no : (bytes : Bytes) → among bytes b ≡ false → read_at (if_next bytes then p else q) s i ≡ read_at q s i
+    unfolding read_at if_next◌then◌else◌
     next_no bytes h = rw (← g.is, h)
 
     pub lead_yes : (lo hi : ℕ) → between lo hi b ≡ true → read_at (lead lo to hi then p else q) s i ≡ read_at p s (i + 1)

@@ -3,7 +3,7 @@ use Rattle.std.specs.Prelude.{[], ◌++◌, Bool, ◌||◌, ℕ, zero, suc, ◌+
 use Rattle.std.proofs.Math.Option.{Option, none, some}
 use Prim.Native.Char.{code}
 use Rattle.ascii.specs.Ascii.{Bytes, between, is_digit, text}
-use Rattle.json_text.specs.Reader.{Reader, ◌>>=◌, ◌>>◌, give, fail, peek, satisfy, one_byte, one_of, byte_range, many, word, ifNext◌then◌else◌, lead◌to◌then◌else◌, ◌or◌, optional, ◌giving◌, verbatim, counted}
+use Rattle.json_text.specs.Reader.{Reader, ◌>>=◌, ◌>>◌, give, fail, peek, satisfy, one_byte, one_of, byte_range, many, word, if_next◌then◌else◌, lead◌to◌then◌else◌, ◌or◌, optional, ◌giving◌, verbatim, counted}
 use Rattle.json_text.specs.Utf8.{multibyte_char, encode_utf8}
 
 -- ---- section 2: blanks
@@ -99,12 +99,12 @@ escaped =
 
 -- char = unescaped / escape ( .. ): the bytes that it means in UTF-8
 unfoldable pub read_char : Reader Bytes
-read_char = ifNext text "\\" then one_of (text "\\") >> escaped giving encode_utf8 else verbatim unescaped
+read_char = if_next text "\\" then one_of (text "\\") >> escaped giving encode_utf8 else verbatim unescaped
 
 -- *char quotation-mark
 unfoldable pub read_chars : ℕ → Reader Bytes
 read_chars zero = fail
-read_chars (suc n) = ifNext text "\"" then one_of (text "\"") >> give [] else do
+read_chars (suc n) = if_next text "\"" then one_of (text "\"") >> give [] else do
   c ← read_char
   cs ← read_chars n
   give (c ++ cs)

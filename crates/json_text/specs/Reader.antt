@@ -82,9 +82,9 @@ word (b ∷ w) = one_of (b ∷ []) >> word w
 -- ---- choices
 
 -- told by the next byte, which is not read
-infix 5 ifNext◌then◌else◌
-unfoldable pub ifNext◌then◌else◌ : {A : Type 0} → Bytes → Reader A → Reader A → Reader A
-ifNext◌then◌else◌ bytes p q s = if among bytes (peek s) then p s else q s
+infix 5 if_next◌then◌else◌
+unfoldable pub if_next◌then◌else◌ : {A : Type 0} → Bytes → Reader A → Reader A → Reader A
+if_next◌then◌else◌ bytes p q s = if among bytes (peek s) then p s else q s
 
 -- a byte from lo to hi and then p; where no such byte is next, q
 infix 5 lead◌to◌then◌else◌

@@ -3,14 +3,14 @@ use mathlib.Core.Path.{◌≡◌, refl}
 use mathlib.Core.List.{[], ◌∷◌}
 use mathlib.Core.Option.{none, some}
 use Rattle.ascii.specs.Ascii.{is_digit, text}
-use Rattle.json_text.specs.Reader.{more, behind, ◌>>=◌, give, fail, end_of_text, peek, satisfy, one_byte, count_while, many, word, ifNext◌then◌else◌, lead◌to◌then◌else◌, either_read, ◌or◌, mapped, ◌giving◌, as_written, verbatim, counted}
+use Rattle.json_text.specs.Reader.{more, behind, ◌>>=◌, give, fail, end_of_text, peek, satisfy, one_byte, count_while, many, word, if_next◌then◌else◌, lead◌to◌then◌else◌, either_read, ◌or◌, mapped, ◌giving◌, as_written, verbatim, counted}
 use Rattle.json_text.specs.Utf8.{multibyte_char, encode_utf8}
 use Rattle.json_text.specs.Lexical.{is_blank, digits, int, frac, exp, read_number, unescaped, hex_value, hex_digit, hex4, low_after, code_point, escaped, read_char, read_chars, read_string}
 use Rattle.json_values.specs.Json.{literal, number, string, array, object, no_item, item, no_member, member, to_items, to_members, items, listed, read_member, read_array, read_object, value_of, read_value, read_text, value_read, read_json}
 
 -- opens every definition
 everything : Unit {0}
-unfolding is_digit more behind ◌>>=◌ give fail end_of_text peek satisfy count_while many word ifNext◌then◌else◌ lead◌to◌then◌else◌ either_read ◌or◌ mapped ◌giving◌ as_written verbatim counted multibyte_char encode_utf8 to_items to_members is_blank digits int frac exp read_number unescaped hex_value one_byte hex_digit hex4 low_after code_point escaped read_char read_chars read_string items listed read_member read_array read_object value_of read_value read_text value_read read_json
+unfolding is_digit more behind ◌>>=◌ give fail end_of_text peek satisfy count_while many word if_next◌then◌else◌ lead◌to◌then◌else◌ either_read ◌or◌ mapped ◌giving◌ as_written verbatim counted multibyte_char encode_utf8 to_items to_members is_blank digits int frac exp read_number unescaped hex_value one_byte hex_digit hex4 low_after code_point escaped read_char read_chars read_string items listed read_member read_array read_object value_of read_value read_text value_read read_json
 everything = tt
 
 nested : read_json (text " [1, {\"a\": [true, null]}, -2.5e+3 ] ") ≡ some (array (item (number (text "1")) (item (object (member (text "a") (array (item literal (item literal no_item))) no_member)) (item (number (text "-2.5e+3")) no_item))))

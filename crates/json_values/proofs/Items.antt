@@ -5,7 +5,7 @@ use Prim.Native.Nat.{ℕ, suc, ◌+◌, ◌-◌, ◌≤◌, ◌<◌}
 use native.Mathlib.Omega.{arith}
 use lib.ListN.{length, drop, length-drop}
 use Rattle.ascii.specs.Ascii.{Bytes}
-use Rattle.json_text.specs.Reader.{got, Reader, give, one_of, ◌>>◌, ifNext◌then◌else◌}
+use Rattle.json_text.specs.Reader.{got, Reader, give, one_of, ◌>>◌, if_next◌then◌else◌}
 use Rattle.json_text.specs.Lexical.{ws}
 use Rattle.json_values.specs.Json.{items, listed}
 use Rattle.json_text.specs.code.Places.{Peeked, read_at, place_of}
@@ -42,7 +42,7 @@ module _ {A : Type 0} {p : Reader A} {close : ℕ} {s : Bytes} {goal q : Next} {
   -- the item ends at j, the blanks behind it at k, and b stands there
   module _ {j k b : ℕ} (h : q ≡ At j) (f : read_at ws s j ≡ got tt k) (g : Peeked s k b) where
     abbrev Behind : Reader (List A)
-    Behind = ifNext (close ∷ []) then one_of (close ∷ []) >> give [] else one_of (44 ∷ []) >> ws >> items p (close ∷ []) L.fuel
+    Behind = if_next (close ∷ []) then one_of (close ∷ []) >> give [] else one_of (44 ∷ []) >> ws >> items p (close ∷ []) L.fuel
 
     to_tail : place_of (read_at Behind s k) ≡ goal
     unfolding items

@@ -12,7 +12,7 @@ use lib.Seq.{drop-append_seam, take-append_seam}
 use lib.Dec.{eqb, leb}
 use borrow.Author.Tests.{leb-true, leb-false, eq-eqb, ne_eqb, eqb-true}
 use Rattle.ascii.specs.Ascii.{Bytes, between, among, is_digit}
-use Rattle.json_text.specs.Reader.{got, bad, Reader, more, behind, ◌>>=◌, ◌>>◌, give, end_of_text, peek, satisfy, one_of, byte_range, count_while, many, ifNext◌then◌else◌, lead◌to◌then◌else◌, either_read, ◌or◌, mapped, ◌giving◌, as_written, verbatim, counted}
+use Rattle.json_text.specs.Reader.{got, bad, Reader, more, behind, ◌>>=◌, ◌>>◌, give, end_of_text, peek, satisfy, one_of, byte_range, count_while, many, if_next◌then◌else◌, lead◌to◌then◌else◌, either_read, ◌or◌, mapped, ◌giving◌, as_written, verbatim, counted}
 use Rattle.json_text.specs.Lexical.{is_blank, ws, int, frac, exp, read_number, unescaped, read_char, read_chars, read_string}
 use Rattle.json_values.specs.Json.{Json, number, string, array, object, to_items, to_members, items, listed, read_member, read_array, read_object, value_of, read_value, read_text, value_read, read_json}
 use Rattle.json_text.proofs.Steps.{inside, above}
@@ -56,12 +56,12 @@ unfolding many
 reads_many f x t h k = record { is = ap (got tt) (span_all f x t h k) }
 
 module _ {A : Type 0} (p q : Reader A) {x : Bytes} {a : A} {t : Bytes} where
-  pub reads_next : (bytes : Bytes) → among bytes (peek (x ++ t)) ≡ true → Reads p x a t → Reads (ifNext bytes then p else q) x a t
-  unfolding ifNext◌then◌else◌
+  pub reads_next : (bytes : Bytes) → among bytes (peek (x ++ t)) ≡ true → Reads p x a t → Reads (if_next bytes then p else q) x a t
+  unfolding if_next◌then◌else◌
   reads_next bytes h e = record { is = rw h e.is }
 
-  pub reads_other : (bytes : Bytes) → among bytes (peek (x ++ t)) ≡ false → Reads q x a t → Reads (ifNext bytes then p else q) x a t
-  unfolding ifNext◌then◌else◌
+  pub reads_other : (bytes : Bytes) → among bytes (peek (x ++ t)) ≡ false → Reads q x a t → Reads (if_next bytes then p else q) x a t
+  unfolding if_next◌then◌else◌
   reads_other bytes h e = record { is = rw h e.is }
 
   pub reads_first : Reads p x a t → Reads (p or q) x a t

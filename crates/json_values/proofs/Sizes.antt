@@ -9,7 +9,7 @@ use native.Mathlib.Omega.{arith}
 use lib.ListN.{length, drop, length-append, length-drop, length-take}
 use lib.Dec.{eqb, ltb}
 use Rattle.ascii.specs.Ascii.{Bytes, is_empty, between, among, is_digit, text}
-use Rattle.json_text.specs.Reader.{Read, got, bad, Reader, more, behind, ◌>>=◌, ◌>>◌, give, fail, end_of_text, peek, satisfy, one_byte, one_of, byte_range, count_while, many, word, ifNext◌then◌else◌, lead◌to◌then◌else◌, either_read, ◌or◌, mapped, ◌giving◌, as_written, verbatim, counted}
+use Rattle.json_text.specs.Reader.{Read, got, bad, Reader, more, behind, ◌>>=◌, ◌>>◌, give, fail, end_of_text, peek, satisfy, one_byte, one_of, byte_range, count_while, many, word, if_next◌then◌else◌, lead◌to◌then◌else◌, either_read, ◌or◌, mapped, ◌giving◌, as_written, verbatim, counted}
 use Rattle.json_text.specs.code.Places.{read_at}
 use Rattle.json_text.specs.Utf8.{then_tail, then_tails, multibyte_char, encode_utf8}
 use Rattle.json_text.specs.Lexical.{is_blank, ws, digits, int, frac, exp, read_number, unescaped, hex_value, hex_digit, hex4, low_after, code_point, escaped, read_char, read_chars, read_string}
@@ -81,8 +81,8 @@ module _ {A : Type 0} (w : A → ℕ) (m : ℕ) where
   unfolding ◌or◌
   sized_or p q s t = record { at = λ l. within_or l (p l) (q l) (s.at l) (t.at l) }
 
-  sized_next : (bytes : Bytes) (p q : Reader A) → Sized w m p → Sized w m q → Sized w m (ifNext bytes then p else q)
-  unfolding ifNext◌then◌else◌
+  sized_next : (bytes : Bytes) (p q : Reader A) → Sized w m p → Sized w m q → Sized w m (if_next bytes then p else q)
+  unfolding if_next◌then◌else◌
   sized_next bytes p q s t = record { at = λ l. within_if (among bytes (peek l)) l (p l) (q l) (s.at l) (t.at l) }
 
   sized_counted : (p : ℕ → Reader A) → ((n : ℕ) → Sized w m (p n)) → Sized w m (counted p)

@@ -10,7 +10,7 @@ use borrow.Author.Tests.{le-leb, lt-leb, leb-true, leb-false, ne_eqb}
 use lib.ListN.{length, take, drop, length-drop}
 use lib.Dec.{leb}
 use Rattle.ascii.specs.Ascii.{Bytes, between, among}
-use Rattle.json_text.specs.Reader.{Read, got, bad, Reader, more, behind, ◌>>=◌, ◌>>◌, give, fail, peek, satisfy, one_of, byte_range, ifNext◌then◌else◌, lead◌to◌then◌else◌, mapped, ◌giving◌, as_written, verbatim, counted}
+use Rattle.json_text.specs.Reader.{Read, got, bad, Reader, more, behind, ◌>>=◌, ◌>>◌, give, fail, peek, satisfy, one_of, byte_range, if_next◌then◌else◌, lead◌to◌then◌else◌, mapped, ◌giving◌, as_written, verbatim, counted}
 use Rattle.json_text.specs.Utf8.{then_tail, then_tails, multibyte_char, Due, due, wrong, lead_byte, next_byte, utf8_from, is_utf8}
 use Rattle.json_text.specs.Lexical.{ws, unescaped, read_char, read_chars, read_string}
 use Rattle.json_values.specs.Json.{Json, string, array, object, to_items, to_members, items, listed, read_member, read_array, read_object, value_of, read_value, read_text, value_read, read_json}
@@ -40,8 +40,8 @@ agree_bind p q k k' w s f = record { at = λ l h. behind_agrees k k' l (p l) h (
 agree_then : {A B : Type 0} (p : Reader A) (k k' : A → Reader B) → Whole p → ((a : A) → Agree (k a) (k' a)) → Agree (p >>= k) (p >>= k')
 agree_then p k k' w f = agree_bind p p k k' w (agree_refl p) f
 
-agree_next : {A : Type 0} (bytes : Bytes) (p p' q q' : Reader A) → Agree p p' → Agree q q' → Agree (ifNext bytes then p else q) (ifNext bytes then p' else q')
-unfolding ifNext◌then◌else◌
+agree_next : {A : Type 0} (bytes : Bytes) (p p' q q' : Reader A) → Agree p p' → Agree q q' → Agree (if_next bytes then p else q) (if_next bytes then p' else q')
+unfolding if_next◌then◌else◌
 agree_next bytes p p' q q' s t = record { at = λ l h. rw (s.at l h, t.at l h) }
 
 agree_giving : {A B : Type 0} (p q : Reader A) (f : A → B) → Agree p q → Agree (p giving f) (q giving f)
@@ -190,11 +190,11 @@ raw_others_are n c l = give_last (λ cs. c ++ cs) l (raw_chars n l)
 
 -- no quotation mark
 chars_on : (n b : ℕ) (l : Bytes) → among (34 ∷ []) b ≡ false → read_chars (suc n) (b ∷ l) ≡ behind (read_char (b ∷ l)) (b ∷ l) (others n)
-unfolding read_chars ifNext◌then◌else◌ peek others ◌>>=◌
+unfolding read_chars if_next◌then◌else◌ peek others ◌>>=◌
 chars_on n b l e = rw e
 
 raw_chars_on : (n b : ℕ) (l : Bytes) → among (34 ∷ []) b ≡ false → raw_chars (suc n) (b ∷ l) ≡ behind (raw_char (b ∷ l)) (b ∷ l) (raw_others n)
-unfolding raw_chars ifNext◌then◌else◌ peek raw_others ◌>>=◌
+unfolding raw_chars if_next◌then◌else◌ peek raw_others ◌>>=◌
 raw_chars_on n b l e = rw e
 
 -- a byte that is no ASCII is a character of the raw grammar
@@ -202,7 +202,7 @@ not_among : (b c : ℕ) → c < b → among (c ∷ []) b ≡ false
 not_among b c h = rw (ne_eqb b c (λ e. absurd (omega arith)))
 
 raw_wide : (b : ℕ) (l : Bytes) → 0x7F < b → b ≤ 0xFF → raw_char (b ∷ l) ≡ got (b ∷ []) 1
-unfolding raw_char ifNext◌then◌else◌ peek verbatim raw_unescaped lead◌to◌then◌else◌ ◌>>=◌ behind satisfy give more as_written
+unfolding raw_char if_next◌then◌else◌ peek verbatim raw_unescaped lead◌to◌then◌else◌ ◌>>=◌ behind satisfy give more as_written
 raw_wide b l h k = rw (not_among b 92 (omega arith), above 0x20 0x21 b (omega arith), above 0x23 0x5B b (omega arith), inside 0x5D 0xFF b (omega arith) k)
 
 raw_step : (n b : ℕ) (l : Bytes) → 0x7F < b → b ≤ 0xFF → raw_chars (suc n) (b ∷ l) ≡ mapped (λ cs. (b ∷ []) ++ cs) (more 1 (raw_chars n l))
@@ -211,7 +211,7 @@ raw_step n b l h k = raw_chars_on n b l (not_among b 34 (omega arith)) ∙ rw (r
 
 -- a character of more bytes than one
 wide_char : (b k : ℕ) (l : Bytes) → 0x7F < b → multibyte_char (b ∷ l) ≡ got tt (suc k) → read_char (b ∷ l) ≡ got (b ∷ take k l) (suc k)
-unfolding read_char ifNext◌then◌else◌ peek verbatim unescaped lead◌to◌then◌else◌ as_written
+unfolding read_char if_next◌then◌else◌ peek verbatim unescaped lead◌to◌then◌else◌ as_written
 wide_char b k l h e = rw (not_among b 92 (omega arith), above 0x20 0x21 b (omega arith), above 0x23 0x5B b (omega arith), above 0x5D 0x7F b (omega arith), e)
 
 wide_step : (n b k : ℕ) (l : Bytes) → 0x7F < b → multibyte_char (b ∷ l) ≡ got tt (suc k)
@@ -263,17 +263,17 @@ unfolding unescaped raw_unescaped lead◌to◌then◌else◌ ◌>>=◌ satisfy p
 plain_same b l h = rw (wide_none b l h, le-leb b 0x7F h, le-leb b 0xFF (omega arith))
 
 char_same : (b : ℕ) (l : Bytes) → b ≤ 0x7F → read_char (b ∷ l) ≡ raw_char (b ∷ l)
-unfolding read_char raw_char ifNext◌then◌else◌ verbatim
+unfolding read_char raw_char if_next◌then◌else◌ verbatim
 char_same b l h = rw (plain_same b l h)
 
 -- ---- strings
 
 quote_same : (n m b : ℕ) (l : Bytes) → among (34 ∷ []) b ≡ true → read_chars (suc n) (b ∷ l) ≡ raw_chars (suc m) (b ∷ l)
-unfolding read_chars raw_chars ifNext◌then◌else◌ peek
+unfolding read_chars raw_chars if_next◌then◌else◌ peek
 quote_same n m b l e = rw e
 
 end_same : (n m : ℕ) → read_chars (suc n) [] ≡ raw_chars (suc m) []
-unfolding read_chars raw_chars ifNext◌then◌else◌ peek ◌>>=◌ behind read_char raw_char verbatim unescaped raw_unescaped multibyte_char lead◌to◌then◌else◌ fail as_written
+unfolding read_chars raw_chars if_next◌then◌else◌ peek ◌>>=◌ behind read_char raw_char verbatim unescaped raw_unescaped multibyte_char lead◌to◌then◌else◌ fail as_written
 end_same n m = refl
 
 first_state : (b : ℕ) (l : Bytes) → utf8_from start (b ∷ l) ≡ utf8_from (lead_byte b) l
@@ -335,7 +335,7 @@ module _ {A : Type 0} (p q : Reader A) (w : Whole p) (s : Agree p q) (c : ℕ) (
       agree_bind _ _ _ _ (whole_behind n)
       (agree_next (c ∷ []) _ _ _ _ (agree_refl _) (agree_then _ _ _ (whole_byte 44 refl) λ u. agree_then ws _ _ whole_ws λ u. agree_items n)) λ others. agree_refl _
     where
-      whole_behind : (n : ℕ) → Whole (ifNext (c ∷ []) then one_of (c ∷ []) >> give [] else one_of (44 ∷ []) >> ws >> items p (c ∷ []) n)
+      whole_behind : (n : ℕ) → Whole (if_next (c ∷ []) then one_of (c ∷ []) >> give [] else one_of (44 ∷ []) >> ws >> items p (c ∷ []) n)
       whole_behind n =
           whole_next (c ∷ []) _ _ (leads_bind _ _ (whole_byte c h) λ u. whole_give [])
           (leads_bind _ _ (whole_byte 44 refl) λ u. leads_bind ws _ whole_ws λ u. whole_items p w c h n)

@@ -11,7 +11,7 @@ use lib.ListN.{length, drop}
 use lib.Seq.{drop-drop}
 use lib.Dec.{eqb, leb}
 use Rattle.ascii.specs.Ascii.{Bytes, is_empty, between, among, is_digit, text}
-use Rattle.json_text.specs.Reader.{Read, got, bad, Reader, more, behind, ◌>>=◌, ◌>>◌, give, fail, end_of_text, peek, satisfy, one_byte, one_of, byte_range, count_while, many, word, ifNext◌then◌else◌, lead◌to◌then◌else◌, either_read, ◌or◌, mapped, ◌giving◌, as_written, verbatim, counted}
+use Rattle.json_text.specs.Reader.{Read, got, bad, Reader, more, behind, ◌>>=◌, ◌>>◌, give, fail, end_of_text, peek, satisfy, one_byte, one_of, byte_range, count_while, many, word, if_next◌then◌else◌, lead◌to◌then◌else◌, either_read, ◌or◌, mapped, ◌giving◌, as_written, verbatim, counted}
 use Rattle.json_text.specs.Utf8.{then_tail, then_tails, multibyte_char, encode_utf8, Due, due, lead_byte, next_byte, utf8_from, is_utf8}
 use Rattle.json_text.specs.Lexical.{is_blank, ws, digits, int, frac, exp, read_number, unescaped, hex_value, hex_digit, hex4, low_after, code_point, escaped, read_char, read_chars, read_string}
 use Rattle.json_values.specs.Json.{Json, number, string, array, object, to_items, to_members, items, listed, read_member, read_array, read_object, value_of, read_value, read_text, value_read, read_json}
@@ -68,8 +68,8 @@ whole_or : {A : Type 0} (p q : Reader A) → Whole p → Whole q → Whole (p or
 unfolding ◌or◌
 whole_or p q s t = record { at = λ l. goes_or start start l (p l) (q l) (s.at l) (t.at l) }
 
-pub whole_next : {A : Type 0} (bytes : Bytes) (p q : Reader A) → Whole p → Whole q → Whole (ifNext bytes then p else q)
-unfolding ifNext◌then◌else◌
+pub whole_next : {A : Type 0} (bytes : Bytes) (p q : Reader A) → Whole p → Whole q → Whole (if_next bytes then p else q)
+unfolding if_next◌then◌else◌
 whole_next bytes p q s t = record { at = λ l. goes_if start start (among bytes (peek l)) l (p l) (q l) (s.at l) (t.at l) }
 
 whole_if : {A : Type 0} (t : Bool) (p q : Reader A) → Whole p → Whole q → Whole (if t then p else q)

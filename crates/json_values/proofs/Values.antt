@@ -10,7 +10,7 @@ use lib.Dec.{leb}
 use borrow.Author.Tests.{leb-true, leb-false}
 use native.Mathlib.Nat.{add-zero}
 use Rattle.ascii.specs.Ascii.{Bytes, is_none}
-use Rattle.json_text.specs.Reader.{Read, got, bad, Reader, more, fail, end_of_text, word, ifNext◌then◌else◌, verbatim}
+use Rattle.json_text.specs.Reader.{Read, got, bad, Reader, more, fail, end_of_text, word, if_next◌then◌else◌, verbatim}
 use Rattle.json_text.specs.Lexical.{ws, read_number, read_string}
 use Rattle.json_values.specs.Json.{Json, literal, number, string, listed, read_member, read_array, read_object, value_of, read_value, read_text, value_read, read_json}
 use Rattle.json_text.specs.code.Places.{Peeked, read_at, place_of}
@@ -22,27 +22,27 @@ use Rattle.json_text.proofs.Steps.{on, then_bad, one_yes, one_no, next_no, give_
 
 module _ {s : Bytes} {i b : ℕ} (g : Peeked s i b) (X Y : Reader Json) where
   is_true_lem : b ≡ 116 → place_of (read_at (value_of X Y) s i) ≡ place_of (read_at (word (116 ∷ 114 ∷ 117 ∷ 101 ∷ [])) s i)
-  unfolding read_at value_of ifNext◌then◌else◌
+  unfolding read_at value_of if_next◌then◌else◌
   is_true_lem h = rw (← g.is, h) (place_giving (word (116 ∷ 114 ∷ 117 ∷ 101 ∷ [])) (λ u. literal) s i)
 
   is_false : b ≡ 102 → place_of (read_at (value_of X Y) s i) ≡ place_of (read_at (word (102 ∷ 97 ∷ 108 ∷ 115 ∷ 101 ∷ [])) s i)
-  unfolding read_at value_of ifNext◌then◌else◌
+  unfolding read_at value_of if_next◌then◌else◌
   is_false h = rw (← g.is, h) (place_giving (word (102 ∷ 97 ∷ 108 ∷ 115 ∷ 101 ∷ [])) (λ u. literal) s i)
 
   is_null : b ≡ 110 → place_of (read_at (value_of X Y) s i) ≡ place_of (read_at (word (110 ∷ 117 ∷ 108 ∷ 108 ∷ [])) s i)
-  unfolding read_at value_of ifNext◌then◌else◌
+  unfolding read_at value_of if_next◌then◌else◌
   is_null h = rw (← g.is, h) (place_giving (word (110 ∷ 117 ∷ 108 ∷ 108 ∷ [])) (λ u. literal) s i)
 
   is_string_lem : b ≡ 34 → place_of (read_at (value_of X Y) s i) ≡ place_of (read_at read_string s i)
-  unfolding read_at value_of ifNext◌then◌else◌
+  unfolding read_at value_of if_next◌then◌else◌
   is_string_lem h = rw (← g.is, h) (place_giving read_string string s i)
 
   is_array : b ≡ 91 → read_at (value_of X Y) s i ≡ read_at X s i
-  unfolding read_at value_of ifNext◌then◌else◌
+  unfolding read_at value_of if_next◌then◌else◌
   is_array h = rw (← g.is, h)
 
   is_object : b ≡ 123 → read_at (value_of X Y) s i ≡ read_at Y s i
-  unfolding read_at value_of ifNext◌then◌else◌
+  unfolding read_at value_of if_next◌then◌else◌
   is_object h = rw (← g.is, h)
 
   is_number : (b ≡ 34 → ⊥) → (b ≡ 91 → ⊥) → (b ≡ 123 → ⊥) → (b ≡ 102 → ⊥) → (b ≡ 110 → ⊥) → (b ≡ 116 → ⊥)

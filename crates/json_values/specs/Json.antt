@@ -2,7 +2,7 @@
 use Rattle.std.specs.Prelude.{List, [], ◌∷◌, ℕ, zero, suc}
 use Rattle.std.proofs.Math.Option.{Option, none, some}
 use Rattle.ascii.specs.Ascii.{Bytes, text}
-use Rattle.json_text.specs.Reader.{Read, got, bad, Reader, ◌>>=◌, ◌>>◌, give, fail, end_of_text, one_of, word, ifNext◌then◌else◌, ◌giving◌, verbatim, counted}
+use Rattle.json_text.specs.Reader.{Read, got, bad, Reader, ◌>>=◌, ◌>>◌, give, fail, end_of_text, one_of, word, if_next◌then◌else◌, ◌giving◌, verbatim, counted}
 use Rattle.json_text.specs.Lexical.{ws, read_number, read_string}
 
 -- ---- the tree
@@ -40,14 +40,14 @@ items each close zero = fail
 items each close (suc n) = do
   a ← each
   ws
-  others ← ifNext close then one_of close >> give [] else one_of (text ",") >> ws >> items each close n
+  others ← if_next close then one_of close >> give [] else one_of (text ",") >> ws >> items each close n
   give (a ∷ others)
 
 -- behind the opening byte: [ item *( value-separator item ) ], and the closing byte
 unfoldable pub listed : {A : Type 0} → Reader A → Bytes → Reader (List A)
 listed each close = do
   ws
-  ifNext close then one_of close >> give [] else counted (items each close)
+  if_next close then one_of close >> give [] else counted (items each close)
 
 -- member = string name-separator value
 unfoldable pub read_member : Reader Json → Reader (Bytes × Json)
@@ -71,12 +71,12 @@ read_object value = one_of (text "{") >> listed (read_member value) (text "}") g
 -- value = false / null / true / object / array / number / string
 unfoldable pub value_of : Reader Json → Reader Json → Reader Json
 value_of read_array read_object =
-    ifNext text "f" then word (text "false") giving (λ u. literal) else
-    ifNext text "n" then word (text "null") giving (λ u. literal) else
-    ifNext text "t" then word (text "true") giving (λ u. literal) else
-    ifNext text "{" then read_object else
-    ifNext text "[" then read_array else
-    ifNext text "\"" then read_string giving string else
+    if_next text "f" then word (text "false") giving (λ u. literal) else
+    if_next text "n" then word (text "null") giving (λ u. literal) else
+    if_next text "t" then word (text "true") giving (λ u. literal) else
+    if_next text "{" then read_object else
+    if_next text "[" then read_array else
+    if_next text "\"" then read_string giving string else
     verbatim read_number giving number
 
 -- a value with at most so many arrays and objects open together

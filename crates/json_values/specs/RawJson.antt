@@ -3,7 +3,7 @@
 use Rattle.std.specs.Prelude.{[], ◌++◌, ℕ, zero, suc}
 use Rattle.std.proofs.Math.Option.{Option}
 use Rattle.ascii.specs.Ascii.{Bytes, text}
-use Rattle.json_text.specs.Reader.{Reader, ◌>>=◌, ◌>>◌, give, fail, end_of_text, one_of, word, ifNext◌then◌else◌, lead◌to◌then◌else◌, ◌giving◌, verbatim, counted}
+use Rattle.json_text.specs.Reader.{Reader, ◌>>=◌, ◌>>◌, give, fail, end_of_text, one_of, word, if_next◌then◌else◌, lead◌to◌then◌else◌, ◌giving◌, verbatim, counted}
 use Rattle.json_text.specs.Utf8.{encode_utf8}
 use Rattle.json_text.specs.Lexical.{ws, read_number, escaped}
 use Rattle.json_values.specs.Json.{Json, literal, number, string, array, object, to_items, to_members, listed, value_read}
@@ -18,11 +18,11 @@ raw_unescaped =
 -- what follows is as in Lexical and Json
 
 unfoldable pub raw_char : Reader Bytes
-raw_char = ifNext text "\\" then one_of (text "\\") >> escaped giving encode_utf8 else verbatim raw_unescaped
+raw_char = if_next text "\\" then one_of (text "\\") >> escaped giving encode_utf8 else verbatim raw_unescaped
 
 unfoldable pub raw_chars : ℕ → Reader Bytes
 raw_chars zero = fail
-raw_chars (suc n) = ifNext text "\"" then one_of (text "\"") >> give [] else do
+raw_chars (suc n) = if_next text "\"" then one_of (text "\"") >> give [] else do
   c ← raw_char
   cs ← raw_chars n
   give (c ++ cs)
@@ -46,12 +46,12 @@ raw_object value = one_of (text "{") >> listed (raw_member value) (text "}") giv
 
 unfoldable pub raw_value_of : Reader Json → Reader Json → Reader Json
 raw_value_of read_array read_object =
-    ifNext text "f" then word (text "false") giving (λ u. literal) else
-    ifNext text "n" then word (text "null") giving (λ u. literal) else
-    ifNext text "t" then word (text "true") giving (λ u. literal) else
-    ifNext text "{" then read_object else
-    ifNext text "[" then read_array else
-    ifNext text "\"" then raw_string giving string else
+    if_next text "f" then word (text "false") giving (λ u. literal) else
+    if_next text "n" then word (text "null") giving (λ u. literal) else
+    if_next text "t" then word (text "true") giving (λ u. literal) else
+    if_next text "{" then read_object else
+    if_next text "[" then read_array else
+    if_next text "\"" then raw_string giving string else
     verbatim read_number giving number
 
 unfoldable pub raw_value : ℕ → Reader Json

@@ -348,7 +348,7 @@ fn look_up(host: &[u8], table: &[u8]) -> Lookup
 }
 
 // The private label, and what is held of the rules that go deeper: a second pass only where there are some. Where there is none, a
-// host has the label exactly where it ends in it (`one_Label` of suffix/proofs/Speed.antt).
+// host has the label exactly where it ends in it (`one_label` of suffix/proofs/Speed.antt).
 pub fn find_owner(host: &[u8], table: &[u8]) -> Owner
     ensures { OwnerIs table.now host.now result }
 {

@@ -10,7 +10,7 @@ use lib.Dec.{eqb}
 use borrow.Author.Tests.{eqb-true, eqb-false}
 use lib.ListN.{length, drop}
 use Rattle.ascii.specs.Ascii.{Bytes, ◌>>=◌ as ◌then◌}
-use Rattle.json_text.specs.Reader.{Read, got, bad, Reader, ◌>>◌, give, fail, one_of, peek, ifNext◌then◌else◌, mapped, counted}
+use Rattle.json_text.specs.Reader.{Read, got, bad, Reader, ◌>>◌, give, fail, one_of, peek, if_next◌then◌else◌, mapped, counted}
 use Rattle.json_text.specs.Lexical.{ws, read_string}
 use Rattle.json_text.specs.code.Places.{Peeked, read_at, place_of}
 use Rattle.json_text.specs.declared.Next.TheVariants.{At, Bad}
@@ -50,7 +50,7 @@ module _ (s : Bytes) (j : ℕ) {k b : ℕ} (e : read_at ws s j ≡ got tt k) (g 
 -- ---- the selected list comes
 
 string_at : {s : Bytes} {i b : ℕ} (g : Peeked s i b) (X Y : Reader Json) → b ≡ 34 → read_at (value_of X Y) s i ≡ mapped string (read_at read_string s i)
-unfolding read_at value_of ifNext◌then◌else◌
+unfolding read_at value_of if_next◌then◌else◌
 string_at {s} {i} g X Y h = rw (← g.is, h) (giving_at read_string string s i)
 
 string_value : {s : Bytes} {i b : ℕ} (g : Peeked s i b) (d : ℕ) → b ≡ 34 → read_at (read_value d) s i ≡ mapped string (read_at read_string s i)
@@ -118,7 +118,7 @@ items_come s (suc n) i {vs} {j} {es} e f =
     (λ i' vs' j' es' u w. items_come s n i' u w)))
   where
     behind : (m k : ℕ) → read_at ws s m ≡ got tt k → (ws' : List Json) (l : ℕ)
-        → read_at (ifNext (93 ∷ []) then one_of (93 ∷ []) >> give [] else one_of (44 ∷ []) >> ws >> items (read_value 12) (93 ∷ []) n) s k ≡ got ws' l
+        → read_at (if_next (93 ∷ []) then one_of (93 ∷ []) >> give [] else one_of (44 ∷ []) >> ws >> items (read_value 12) (93 ∷ []) n) s k ≡ got ws' l
         → (rs : List Bytes) → strings (to_items ws') ≡ some rs
         → ((i' : ℕ) (vs' : List Json) (j' : ℕ) (es' : List Bytes) → read_at (items (read_value 12) (93 ∷ []) n) s i' ≡ got vs' j' → strings (to_items vs') ≡ some es' → Coming s (At i') es')
         → Coming s (next_entry s m) rs
@@ -127,7 +127,7 @@ items_come s (suc n) i {vs} {j} {es} e f =
         go : (u : Bool) → eqb (peek (drop k s)) 93 ≡ u → Coming s (next_entry s m) rs
         go true u =
             let q : peek (drop k s) ≡ 93 = eqb-true (peek (drop k s)) 93 u in
-            let v : read_at (ifNext (93 ∷ []) then one_of (93 ∷ []) >> give [] else one_of (44 ∷ []) >> ws >> items (read_value 12) (93 ∷ []) n) s k ≡ got [] (k + 1) =
+            let v : read_at (if_next (93 ∷ []) then one_of (93 ∷ []) >> give [] else one_of (44 ∷ []) >> ws >> items (read_value 12) (93 ∷ []) n) s k ≡ got [] (k + 1) =
             next_yes (peeked s k) _ _ _ (is_one (peek (drop k s)) 93 q) ∙ on _ _ _ _ (one_yes (peeked s k) _ (is_one (peek (drop k s)) 93 q)) ∙ give_at [] s (k + 1) in
             let y : ◌≡◌ {A = Read (List Json)} (got [] (k + 1)) (got ws' l) = sym v ∙ r in
             let z : [] ≡ ws' = cc in
@@ -159,7 +159,7 @@ listed_comes s p {vs} {j} {es} g h e f =
     let a = bound _ _ s (p + 1) e in
     go a.place (ws_at s (p + 1) a.first_read) a.rest_read (eqb (peek (drop a.place s)) 93) refl
   where
-    go : (i : ℕ) → read_at ws s (p + 1) ≡ got tt i → read_at (ifNext (93 ∷ []) then one_of (93 ∷ []) >> give [] else counted (items (read_value 12) (93 ∷ []))) s i ≡ got vs j
+    go : (i : ℕ) → read_at ws s (p + 1) ≡ got tt i → read_at (if_next (93 ∷ []) then one_of (93 ∷ []) >> give [] else counted (items (read_value 12) (93 ∷ []))) s i ≡ got vs j
         → (u : Bool) → eqb (peek (drop i s)) 93 ≡ u → Coming s (first_entry s p) es
     go i w r true u =
         let q : peek (drop i s) ≡ 93 = eqb-true (peek (drop i s)) 93 u in

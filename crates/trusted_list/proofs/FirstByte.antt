@@ -10,7 +10,7 @@ use lib.Dec.{eqb, leb}
 use lib.ListN.{take, drop}
 use borrow.Author.Tests.{eqb-true, eqb-false, eq-eqb, ne_eqb, lt-leb}
 use Rattle.ascii.specs.Ascii.{Bytes, all, among, is_digit, number16}
-use Rattle.json_text.specs.Reader.{Read, got, bad, Reader, more, peek, fail, ifNext◌then◌else◌, ◌giving◌, verbatim, as_written, mapped}
+use Rattle.json_text.specs.Reader.{Read, got, bad, Reader, more, peek, fail, if_next◌then◌else◌, ◌giving◌, verbatim, as_written, mapped}
 use Rattle.json_text.specs.Lexical.{read_number, read_string}
 use Rattle.json_text.specs.code.Places.{Peeked, read_at}
 use Rattle.json_text.proofs.Steps.{on, one_yes, next_yes, next_no, fail_at, giving_at, is_one}
@@ -26,14 +26,14 @@ module _ {s : Bytes} {i b : ℕ} (g : Peeked s i b) (d : ℕ) where
   object_at h = chosen (read_array (read_value d)) (read_object (read_value d)) ∙ on _ _ _ _ (one_yes g _ (is_one b 123 h)) ∙ giving_at (listed (read_member (read_value d)) (125 ∷ [])) (λ ms. object (to_members ms)) s (i + 1)
     where
       chosen : (X Y : Reader Json) → read_at (value_of X Y) s i ≡ read_at Y s i
-      chosen X Y = unfold read_at value_of ifNext◌then◌else◌ in (rw (← g.is, h))
+      chosen X Y = unfold read_at value_of if_next◌then◌else◌ in (rw (← g.is, h))
 
   pub array_at : b ≡ 91 → read_at (read_value (suc d)) s i ≡ mapped (λ vs. array (to_items vs)) (read_at (listed (read_value d) (93 ∷ [])) s (i + 1))
   unfolding read_value read_array
   array_at h = chosen (read_array (read_value d)) (read_object (read_value d)) ∙ on _ _ _ _ (one_yes g _ (is_one b 91 h)) ∙ giving_at (listed (read_value d) (93 ∷ [])) (λ vs. array (to_items vs)) s (i + 1)
     where
       chosen : (X Y : Reader Json) → read_at (value_of X Y) s i ≡ read_at X s i
-      chosen X Y = unfold read_at value_of ifNext◌then◌else◌ in (rw (← g.is, h))
+      chosen X Y = unfold read_at value_of if_next◌then◌else◌ in (rw (← g.is, h))
 
 -- ---- every value, by its first byte
 
@@ -59,7 +59,7 @@ module _ {s : Bytes} {i b : ℕ} (g : Peeked s i b) (P : Json → ℕ → Type 0
   abbrev Tells : Reader Json → Type 0
   Tells p = (v : Json) (j : ℕ) → read_at p s i ≡ got v j → P v j
 
-  choose : (c : ℕ) (p q : Reader Json) → (b ≡ c → Tells p) → ((b ≡ c → ⊥) → Tells q) → Tells (ifNext (c ∷ []) then p else q)
+  choose : (c : ℕ) (p q : Reader Json) → (b ≡ c → Tells p) → ((b ≡ c → ⊥) → Tells q) → Tells (if_next (c ∷ []) then p else q)
   choose c p q f h v j e = go (eqb b c) refl
     where
       to_among : (u : Bool) → eqb b c ≡ u → among (c ∷ []) b ≡ u

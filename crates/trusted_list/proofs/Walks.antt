@@ -6,7 +6,7 @@ use native.Mathlib.Omega.{arith}
 use lib.ListN.{length, drop, length-drop}
 use lib.Seq.{append_snoc}
 use Rattle.ascii.specs.Ascii.{Bytes}
-use Rattle.json_text.specs.Reader.{Read, got, bad, Reader, give, one_of, ◌>>◌, ifNext◌then◌else◌, mapped}
+use Rattle.json_text.specs.Reader.{Read, got, bad, Reader, give, one_of, ◌>>◌, if_next◌then◌else◌, mapped}
 use Rattle.json_text.specs.Lexical.{ws}
 use Rattle.json_text.specs.code.Places.{Peeked, read_at}
 use Rattle.json_text.proofs.Steps.{on, then_bad, one_yes, one_no, next_yes, next_no, give_at, counted_at, map_give, no_fall, peek_in, is_one, not_one}
@@ -133,7 +133,7 @@ module _ {A : Type 0} {p : Reader A} {close : ℕ} {s : Bytes} {R : List A → T
     H = two_has E h
 
     abbrev Behind : Reader (List A)
-    Behind = ifNext (close ∷ []) then one_of (close ∷ []) >> give [] else one_of (44 ∷ []) >> ws >> items p (close ∷ []) L.fuel
+    Behind = if_next (close ∷ []) then one_of (close ∷ []) >> give [] else one_of (44 ∷ []) >> ws >> items p (close ∷ []) L.fuel
 
     abbrev now : List A
     now = L.done ++ H.value ∷ []

@@ -6,7 +6,7 @@ use Rattle.suffix.specs.Suffix.{read_table}
 use Rattle.origin.specs.code.Parts.{part}
 use Rattle.refusals.specs.declared.Refusal.TheVariants.{BadTable}
 use Rattle.fetch_record.specs.Record.{Redirect}
-use Rattle.fetch_record.specs.code.Meaning.{answer_of as responseOf}
+use Rattle.fetch_record.specs.code.Meaning.{answer_of as response_of}
 use Rattle.fetch_record.specs.declared.item.Answer.{Answer as Response}
 use Rattle.entries.specs.Causes.{kept}
 use Rattle.entries.specs.code.Owner.{HostEnds}
@@ -34,7 +34,7 @@ answer_of (Refused r) = refused r
 
 unfoldable pub stage_of : Standing → Stage
 stage_of (Settled a) = settled (answer_of a)
-stage_of (ListDue r end) = list_due (responseOf r)
+stage_of (ListDue r end) = list_due (response_of r)
 
 -- the AppID's host ends where the stage says
 pub data Hosted (appid : Bytes) : Standing → Type 0 where

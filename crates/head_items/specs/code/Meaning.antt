@@ -9,7 +9,7 @@ use Rattle.head_items.specs.declared.Lengths.TheVariants.{Refused, Written}
 
 -- a redirect's item and a Location of so many bytes fit into outputs of these lengths, and its start into 2 bytes
 unfoldable pub has_room : ℕ → ℕ → ℕ → ℕ → Bool
-has_room start size itemRoom textRoom = leb 8 itemRoom && leb size textRoom && leb start 65535
+has_room start size item_room text_room = leb 8 item_room && leb size text_room && leb start 65535
 
 -- a redirect's item, for a Location of so many bytes
 unfoldable pub redirect_item : ℕ → Bool → ℕ → ℕ → Bytes
@@ -20,11 +20,11 @@ lengths_of (refused r) = Refused r
 lengths_of (written item location) = Written (length item) (length location)
 
 -- both outputs before and after the call, and the answer
-pub record Answers (start : ℕ) (o : Option Head) (item_before itemThen text_before textThen : Bytes) (r : Lengths) : Type 0 where
+pub record Answers (start : ℕ) (o : Option Head) (item_before item_then text_before text_then : Bytes) (r : Lengths) : Type 0 where
   pub is : r ≡ lengths_of (item_for start item_before text_before o)
-  pub item_is : itemThen ≡ item_after item_before (item_for start item_before text_before o)
-  pub text_is : textThen ≡ text_after text_before (item_for start item_before text_before o)
+  pub item_is : item_then ≡ item_after item_before (item_for start item_before text_before o)
+  pub text_is : text_then ≡ text_after text_before (item_for start item_before text_before o)
 
 -- an answer leaves the second output as it is
-pub record WritesAnswer (status : ℕ) (typed : Bool) (item_before itemThen : Bytes) (r : Lengths) : Type 0 where
-  pub is : (start : ℕ) (text_before : Bytes) → Answers start (some (answer status typed)) item_before itemThen text_before text_before r
+pub record WritesAnswer (status : ℕ) (typed : Bool) (item_before item_then : Bytes) (r : Lengths) : Type 0 where
+  pub is : (start : ℕ) (text_before : Bytes) → Answers start (some (answer status typed)) item_before item_then text_before text_before r

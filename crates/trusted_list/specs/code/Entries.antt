@@ -1,7 +1,7 @@
 -- Going through the selected entries one by one.
 use Rattle.std.specs.Prelude.{List, [], ◌∷◌, ◌≡◌, ℕ}
 use Rattle.ascii.specs.Ascii.{Bytes, text}
-use Rattle.json_text.specs.Reader.{got, Reader, ◌>>◌, give, fail, one_of, ifNext◌then◌else◌}
+use Rattle.json_text.specs.Reader.{got, Reader, ◌>>◌, give, fail, one_of, if_next◌then◌else◌}
 use Rattle.json_text.specs.Lexical.{ws, read_string}
 use Rattle.json_text.specs.code.Places.{read_at, place_of}
 use Rattle.json_text.specs.declared.Next.{Next}
@@ -9,7 +9,7 @@ use Rattle.json_text.specs.declared.Next.TheVariants.{At, Bad}
 
 -- behind the opening bracket: blanks, and an array that is not at its end
 unfoldable pub to_first : Reader (Unit {0})
-to_first = one_of (text "[") >> ws >> (ifNext text "]" then fail else give tt)
+to_first = one_of (text "[") >> ws >> (if_next text "]" then fail else give tt)
 
 -- a comma with blanks around it
 unfoldable pub to_next : Reader (Unit {0})

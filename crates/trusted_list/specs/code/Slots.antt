@@ -2,7 +2,7 @@
 use Rattle.std.specs.Prelude.{◌≡◌, List, [], ◌∷◌, ◌++◌, Bool, true, false, ◌&&◌, not, ℕ, eqb, if◌then◌else◌}
 use Rattle.std.proofs.Math.Option.{Option, none, some}
 use Rattle.ascii.specs.Ascii.{Bytes, is_none, all, text}
-use Rattle.json_text.specs.Reader.{Read, got, bad, Reader, ◌>>=◌, ◌>>◌, give, one_of, ifNext◌then◌else◌}
+use Rattle.json_text.specs.Reader.{Read, got, bad, Reader, ◌>>=◌, ◌>>◌, give, one_of, if_next◌then◌else◌}
 use Rattle.json_text.specs.Lexical.{ws, read_string}
 use Rattle.json_text.specs.code.Places.{read_at}
 use Rattle.json_values.specs.Json.{Json, to_items, to_members, read_value, value_read}
