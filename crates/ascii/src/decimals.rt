@@ -3,7 +3,7 @@ ghost use Rattle.std.specs.Prelude.{◌≡◌, true, ◌+◌, ◌<◌};
 ghost use Rattle.ascii.specs.Ascii.{is_digit, number16};
 ghost use Rattle.ascii.specs.code.Numbers.{number_of, DigitIs, Writes};
 
-#[derive(Drop)]
+#[derive(Clone, Copy)]
 pub enum Number {
     Value(u16),
     Malformed,
@@ -42,7 +42,7 @@ fn digit_value(b: u8) -> u32
 }
 
 // The digits of a number, at the front of the array.
-#[derive(Drop)]
+#[derive(Clone, Copy)]
 pub struct Decimal {
     pub digits: [u8; 5],
     pub len: usize,

@@ -18,7 +18,7 @@ use trusted_list::Selection;
 // ---- before the list is written
 
 // A refusal; or the AppID's owner, and where the selected ids stand.
-#[derive(Drop)]
+#[derive(Clone, Copy)]
 pub enum Ready {
     Refused(Refusal),
     Listed(Owner, usize),
@@ -143,7 +143,7 @@ fn write_ids(
 // ---- the whole list
 
 // A refusal, or the length of the list that is written.
-#[derive(Drop)]
+#[derive(Clone, Copy)]
 pub enum Output {
     Refused(Refusal),
     Length(usize),

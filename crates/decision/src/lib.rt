@@ -28,7 +28,7 @@ pub enum Answer {
 }
 
 // What caller, AppID, record and text settle; or the response that came, and where the AppID's host ends: the list is due.
-#[derive(Drop)]
+#[derive(Clone, Copy)]
 pub enum Stage {
     Settled(Answer),
     ListDue(fetch_record::item::Answer, usize),
@@ -71,7 +71,7 @@ pub fn before_list(caller: &[u8], appid: &[u8], items: &[u8], text: &[u8]) -> St
 // ---- by the list
 
 // The place of the first kept entry that matches, or none does.
-#[derive(Drop)]
+#[derive(Clone, Copy)]
 pub enum Match {
     At(usize),
     Nowhere,
@@ -180,7 +180,7 @@ pub fn decide(
 // ---- the fetch location
 
 // No part; the AppID; or the part of the text between two places.
-#[derive(Drop)]
+#[derive(Clone, Copy)]
 pub enum Location {
     Nothing,
     AppId,

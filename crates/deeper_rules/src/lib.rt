@@ -8,7 +8,7 @@ ghost use Rattle.deeper_rules.specs.code.Findings.{found, FindsHost, FindsRule, 
 use label_lookup::{Deeper, Depths};
 
 // The most labels of a matching exception, and of any matching rule, 0 where none matches.
-#[derive(Drop)]
+#[derive(Clone, Copy)]
 pub struct Finding {
     pub exception: usize,
     pub most: usize,

@@ -11,7 +11,7 @@ use origin::Reading;
 // ---- the AppID
 
 // Refusal 2; or it does not begin `https://`; or it is an HTTPS URL whose host ends at a place.
-#[derive(Drop)]
+#[derive(Clone, Copy)]
 pub enum AppId {
     Bad,
     Foreign,
@@ -27,7 +27,7 @@ pub struct Owner {
     pub deeper: Deeper,
 }
 
-#[derive(Drop)]
+#[derive(Clone, Copy)]
 pub enum AppOwner {
     BadTable,
     Is(Owner),
@@ -68,7 +68,7 @@ pub fn find_owner(appid: &[u8], end: usize, table: &[u8]) -> AppOwner
 // ---- causes
 
 // Causes 1 to 4.
-#[derive(Drop)]
+#[derive(Clone, Copy)]
 pub enum Cause {
     TooLong,
     OtherScheme,
@@ -77,7 +77,7 @@ pub enum Cause {
 }
 
 // Kept, or the first cause that holds.
-#[derive(Drop)]
+#[derive(Clone, Copy)]
 pub enum Verdict {
     Kept,
     Discarded(Cause),
@@ -133,7 +133,7 @@ fn judge(entry: &[u8], label: &[u8], deeper: Deeper, table: &[u8]) -> Verdict
 // ---- an entry
 
 // How many bytes of it are held, above 512 where it has more; kept or discarded; and where the next one stands.
-#[derive(Drop)]
+#[derive(Clone, Copy)]
 pub struct Entry {
     pub len: usize,
     pub verdict: Verdict,

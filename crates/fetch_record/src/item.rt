@@ -4,7 +4,7 @@ ghost use Rattle.fetch_record.specs.Record.{read_redirect, read_answer};
 ghost use Rattle.fetch_record.specs.code.Meaning.{redirect_of, redirect_read, answer_read, redirect_in};
 
 // Kind 1, redirect: its status, whether the authorized header was seen, and where its Location stands in the lent text.
-#[derive(Drop)]
+#[derive(Clone, Copy)]
 pub struct Redirect {
     pub status: u16,
     pub authorized: bool,
@@ -13,19 +13,19 @@ pub struct Redirect {
 }
 
 // Kind 2, answer: its status, and whether the right content type was seen.
-#[derive(Drop)]
+#[derive(Clone, Copy)]
 pub struct Answer {
     pub status: u16,
     pub type_seen: bool,
 }
 
-#[derive(Drop)]
+#[derive(Clone, Copy)]
 pub enum RedirectBody {
     Redirect(Redirect),
     Malformed,
 }
 
-#[derive(Drop)]
+#[derive(Clone, Copy)]
 pub enum AnswerBody {
     Answer(Answer),
     Malformed,

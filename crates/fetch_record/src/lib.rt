@@ -13,7 +13,7 @@ use origin::Reading;
 use refusals::Refusal;
 
 // What stands behind the redirects.
-#[derive(Drop)]
+#[derive(Clone, Copy)]
 enum End {
     Unanswered,
     Answered(Answer),
@@ -21,28 +21,28 @@ enum End {
 }
 
 // The redirects at the front of a record: how many they are.
-#[derive(Drop)]
+#[derive(Clone, Copy)]
 enum Front {
     Redirects(usize),
     Malformed,
 }
 
 // A whole record: how many redirects, and the answer behind them.
-#[derive(Drop)]
+#[derive(Clone, Copy)]
 enum Layout {
     Unanswered(usize),
     Answered(usize, Answer),
     Malformed,
 }
 
-#[derive(Drop)]
+#[derive(Clone, Copy)]
 enum Hops {
     Passed,
     Refused(Refusal),
 }
 
 // What record and text settle.
-#[derive(Drop)]
+#[derive(Clone, Copy)]
 pub enum Outcome {
     Refused(Refusal),
     Fetch,
@@ -50,7 +50,7 @@ pub enum Outcome {
 }
 
 // The last redirect's part of the text, by the places where it starts and ends.
-#[derive(Drop)]
+#[derive(Clone, Copy)]
 pub enum Target {
     NoRedirect,
     Part(usize, usize),

@@ -11,7 +11,7 @@ use refusals::Refusal;
 use response_head::Reading;
 
 // The lengths of the item and of the Location text that are written.
-#[derive(Drop)]
+#[derive(Clone, Copy)]
 pub enum Lengths {
     Refused(Refusal),
     Written(usize, usize),

@@ -30,21 +30,21 @@ pub const QUOTATION_MARK: u16 = b'"' as u16;
 pub const ESCAPE: u16 = b'\\' as u16;
 
 // The place behind what was read; or the bytes are wrong.
-#[derive(Drop)]
+#[derive(Clone, Copy)]
 pub enum Next {
     At(usize),
     Bad,
 }
 
 // A code point and the place behind it; or the bytes are wrong.
-#[derive(Drop)]
+#[derive(Clone, Copy)]
 pub enum Point {
     Code(u32, usize),
     Wrong,
 }
 
 // The number of a hexadecimal digit; Other for a byte that is none.
-#[derive(Drop)]
+#[derive(Clone, Copy)]
 enum HexDigit {
     Number(u8),
     Other,
@@ -52,14 +52,14 @@ enum HexDigit {
 
 // A decoded string, held by value where it has at most 512 bytes (document 01, "The list"); a length above 512 says
 // that it has more.
-#[derive(Drop)]
+#[derive(Clone, Copy)]
 pub struct Decoded {
     pub bytes: [u8; 512],
     pub len: usize,
 }
 
 // How many bytes are held after a character, and the place behind it; or the character is wrong.
-#[derive(Drop)]
+#[derive(Clone, Copy)]
 pub enum Progress {
     On(usize, usize),
     Stuck,

@@ -19,7 +19,7 @@ ghost use Rattle.label_lookup.specs.code.Span.{OwnerIs};
 use suffix::Best;
 
 // As Best, with the most last labels of the host that a rule goes deeper than.
-#[derive(Drop)]
+#[derive(Clone, Copy)]
 pub enum Depths {
     Wrong,
     Found(usize, usize, usize),
@@ -27,7 +27,7 @@ pub enum Depths {
 
 // What one pass tells of a host: the table is bad; or where the host's private label begins, its end where there is none, the two
 // sizes, and whether a rule goes deeper than that label.
-#[derive(Drop)]
+#[derive(Clone, Copy)]
 pub enum Lookup {
     BadTable,
     Found(usize, usize, usize, bool),
@@ -46,7 +46,7 @@ pub struct Deeper {
 
 // The table is bad; or where the host's private label begins, its end where there is none, and what is held of the rules that go
 // deeper than it.
-#[derive(Drop)]
+#[derive(Clone, Copy)]
 pub enum Owner {
     BadTable,
     Label(usize, Deeper),

@@ -13,7 +13,7 @@ use crate::{kinds_for, name_deeper, wild_goes_deeper};
 use suffix::skips;
 
 // Where lines of a table begin and end.
-#[derive(Drop)]
+#[derive(Clone, Copy)]
 pub struct Span {
     pub from: usize,
     pub to: usize,

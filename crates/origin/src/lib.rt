@@ -12,14 +12,14 @@ use ascii::decimals::Number;
 
 // Where the parts of a text that begins `https://` stand: the host from 8 to end, then the port, then what is
 // left from tail on. The port is its number, 443 where it is absent.
-#[derive(Drop)]
+#[derive(Clone, Copy)]
 pub struct Parts {
     pub end: usize,
     pub port: u16,
     pub tail: usize,
 }
 
-#[derive(Drop)]
+#[derive(Clone, Copy)]
 pub enum Reading {
     Found(Parts),
     Malformed,

@@ -10,7 +10,7 @@ ghost use Rattle.response_head.specs.code.Meaning.{is_alphanumeric, in_run, Trim
 use ascii::decimals::Number;
 
 // A whole head: status and authorized header of a redirect, with the places of its Location; status and right type of an answer.
-#[derive(Drop)]
+#[derive(Clone, Copy)]
 pub enum Reading {
     Redirect(u16, bool, usize, usize),
     Answer(u16, bool),
@@ -18,7 +18,7 @@ pub enum Reading {
 }
 
 // A field line: the place of its colon, and the two places between which its value stands, without the blanks around it.
-#[derive(Drop)]
+#[derive(Clone, Copy)]
 enum FieldLine {
     Parts(usize, usize, usize),
     Malformed,
@@ -41,14 +41,14 @@ enum Place {
 }
 
 // What is seen of the field lines so far.
-#[derive(Drop)]
+#[derive(Clone, Copy)]
 struct Seen {
     authorized: First,
     typed: First,
     location: Place,
 }
 
-#[derive(Drop)]
+#[derive(Clone, Copy)]
 enum Fields {
     Read(Seen),
     Malformed,

@@ -9,14 +9,14 @@ ghost use Rattle.suffix.specs.code.Idle.{Skipped, last_byte, kind_in, KindBy, Ki
 use crate::in_content;
 
 // One byte on: where its line begins, and the byte's kind.
-#[derive(Drop)]
+#[derive(Clone, Copy)]
 pub enum Step {
     On(usize, u8),
     Off,
 }
 
 // The first line that may find something: a host, from its start to its end; or another line.
-#[derive(Drop)]
+#[derive(Clone, Copy)]
 pub enum Stop {
     Host(usize, usize),
     Other(usize),

@@ -14,7 +14,7 @@ use json_text::{Decoded, Next};
 use refusals::Refusal;
 
 // Kept entries and each of the four causes.
-#[derive(Drop)]
+#[derive(Clone, Copy)]
 pub struct Counts {
     pub kept: u32,
     pub long: u32,
@@ -23,7 +23,7 @@ pub struct Counts {
     pub label: u32,
 }
 
-#[derive(Drop)]
+#[derive(Clone, Copy)]
 pub enum Tallied {
     Refused(Refusal),
     Counted(Counts),

@@ -27,28 +27,28 @@ pub enum Slot {
 }
 
 // What it holds for two names of an object.
-#[derive(Drop)]
+#[derive(Clone, Copy)]
 pub struct Two {
     pub first: Slot,
     pub second: Slot,
 }
 
 // The bytes are no JSON; or the place behind a value, and what is held of it.
-#[derive(Drop)]
+#[derive(Clone, Copy)]
 pub enum Found {
     Wrong,
     Value(usize, Slot),
 }
 
 // The same for the members of an object, or the items of an array.
-#[derive(Drop)]
+#[derive(Clone, Copy)]
 pub enum Walked {
     Stuck,
     Through(usize, Two),
 }
 
 // The refusal; or the place of the selected ids.
-#[derive(Drop)]
+#[derive(Clone, Copy)]
 pub enum Selection {
     Refused(Refusal),
     Ids(usize),
