@@ -3,32 +3,17 @@
 // A read or a write that fails ends it with that error.
 #![tactic(auto)]
 
-ghost use Rattle.std.specs.Prelude.{◌≤◌, length, IfOk};
+ghost use Rattle.std.specs.Io.{ReadsAtMost};
 
 use cleaning::Output;
+use full_reads::read_full;
 use refusals::Refusal;
-use std::io::Read;
 use std::rt::Files;
 use std::{fs, io};
 
-// Reads until buf is full or the input ends: how many bytes stand at its start.
-fn read_full(reader: &mut impl Read, buf: &mut [u8]) -> io::Result<usize>
-    ensures { IfOk result (λ n. n ≤ length buf.new) }
-{
-    let mut done = 0;
-    while done < buf.len() {
-        let n = reader.read(&mut buf[done..])?;
-        if n == 0 {
-            return Ok(done);
-        }
-        done += n;
-    }
-    Ok(done)
-}
-
 // The bytes of a file, as many as there is room for. One byte of room more than a bound shows that the file is longer.
 fn read_file(rt: &impl Files, name: &str, room: &mut [u8]) -> io::Result<usize>
-    ensures { IfOk result (λ n. n ≤ length room.new) }
+    ensures { ReadsAtMost result room.new }
 {
     let Ok(mut file) = fs::open(rt, name) else {
         return Ok(0);

@@ -2,10 +2,8 @@
 // Its first byte is set to a blank before each turn. hub/benches/json.rs takes the time.
 #![tactic(auto)]
 
-ghost use Rattle.std.specs.Prelude.{◌≤◌, length, IfOk};
-
+use full_reads::read_full;
 use std::io;
-use std::io::Read;
 use std::num::wrapping_add_u64;
 
 fn is_readable(s: &[u8], n: usize) -> bool {
@@ -33,21 +31,6 @@ fn turns(s: &mut [u8], n: usize) -> u64 {
         count = wrapping_add_u64(count, turn(s, n, 10));
     }
     count
-}
-
-// Reads until buf is full or the input ends: how many bytes stand at its start.
-fn read_full(reader: &mut impl Read, buf: &mut [u8]) -> io::Result<usize>
-    ensures { IfOk result (λ n. n ≤ length buf.new) }
-{
-    let mut done = 0;
-    while done < buf.len() {
-        let n = reader.read(&mut buf[done..])?;
-        if n == 0 {
-            return Ok(done);
-        }
-        done += n;
-    }
-    Ok(done)
 }
 
 fn main(rt: HostRuntime) -> io::Result<()> {

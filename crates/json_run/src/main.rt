@@ -2,8 +2,7 @@
 // `unreadable`, `readable`, or, where the text is one string, `string` and its decoded bytes in hexadecimal, or `string long`.
 #![tactic(auto)]
 
-ghost use Rattle.std.specs.Prelude.{◌≤◌, length, IfOk};
-
+use full_reads::read_full;
 use json_text::Progress;
 use std::io;
 use std::io::Read;
@@ -101,21 +100,6 @@ fn answer_first(rt: &impl Print, buf: &[u8], n: usize) -> io::Result<bool> {
 
 fn wide(x: u8) -> usize {
     x as usize
-}
-
-// Reads until buf is full or the input ends: how many bytes stand at its start.
-fn read_full(reader: &mut impl Read, buf: &mut [u8]) -> io::Result<usize>
-    ensures { IfOk result (λ n. n ≤ length buf.new) }
-{
-    let mut done = 0;
-    while done < buf.len() {
-        let n = reader.read(&mut buf[done..])?;
-        if n == 0 {
-            return Ok(done);
-        }
-        done += n;
-    }
-    Ok(done)
 }
 
 fn read_some(reader: &mut impl Read, buf: &mut [u8], n: usize) -> io::Result<usize> {

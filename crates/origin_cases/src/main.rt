@@ -3,12 +3,12 @@
 // holds what document 01 says of each.
 #![tactic(auto)]
 
-ghost use Rattle.std.specs.Prelude.{◌≤◌, length, IfOk};
+ghost use Rattle.std.specs.Prelude.{◌≤◌, length};
 ghost use Rattle.origin_cases.specs.Lines.{Between};
 
+use full_reads::read_full;
 use origin::Reading;
 use std::io;
-use std::io::Read;
 
 mod forms;
 
@@ -94,21 +94,6 @@ fn first_lines(rt: &impl Print, s: &[u8], n: usize) -> io::Result<()> {
         lines(rt, &s[0..n])?;
     }
     Ok(())
-}
-
-// Reads until buf is full or the input ends: how many bytes stand at its start.
-fn read_full(reader: &mut impl Read, buf: &mut [u8]) -> io::Result<usize>
-    ensures { IfOk result (λ n. n ≤ length buf.new) }
-{
-    let mut done = 0;
-    while done < buf.len() {
-        let n = reader.read(&mut buf[done..])?;
-        if n == 0 {
-            return Ok(done);
-        }
-        done += n;
-    }
-    Ok(done)
 }
 
 fn input(rt: &(impl Input + Print)) -> io::Result<()> {
