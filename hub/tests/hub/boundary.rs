@@ -133,7 +133,7 @@ const EXPORTED: [&str; 13] =
 /// What the library exports, its parameters as C passes them.
 fn library(source: &str) -> Side {
     let (tokens, mut side) = (tokens(source), Side::default());
-    hiding(source, &["![tactic(auto)", "[derive(Drop)", "[unsafe(no_mangle)", "[repr(C)"], &mut side);
+    hiding(source, &["![tactic(auto)", "[derive(Clone,Copy)", "[unsafe(no_mangle)", "[repr(C)"], &mut side);
     structs(&tokens, &mut side);
     let marked = behind(&tokens, &EXPORTED);
     if marked.len() != count(&tokens, "extern") || marked.len() != count(&tokens, "no_mangle") {
