@@ -28,6 +28,9 @@ IOS = b'ios:bundle-id:'
 MANY = [b'https://w%04d.example.com' % n for n in range(2000)]
 FULL = filled(body(MANY), 65536, b' ')
 
+# stands for a file of that name that opens and can't be read
+FOLDER = object()
+
 # name, appid, table, body (None: there is no such file), what is printed before the LF
 RUNS = [
     ('the example of document 01', APPID, TABLE, BODY, LIST),
@@ -39,6 +42,10 @@ RUNS = [
     ('an empty table', APPID, b'', BODY, LIST),
     ('no body', APPID, TABLE, None, (REFUSED, 10)),
     ('an empty body', APPID, TABLE, b'', (REFUSED, 10)),
+    # nor one that can't be read
+    ('a folder for the AppID', FOLDER, TABLE, BODY, (REFUSED, 3)),
+    ('a folder for the table', APPID, FOLDER, BODY, LIST),
+    ('a folder for the body', APPID, TABLE, FOLDER, (REFUSED, 10)),
     # refusals 2 and 3
     ('an AppID of 2,048 bytes', filled(APPID, 2048, b'a'), TABLE, BODY, LIST),
     ('an AppID of 2,049 bytes', filled(APPID, 2049, b'a'), TABLE, BODY, (REFUSED, 2)),
@@ -103,7 +110,9 @@ WRAPPED = [
 def in_folder(files, command):
     with tempfile.TemporaryDirectory() as folder:
         for name, content in zip(('appid', 'table', 'body'), files or ()):
-            if content is not None:
+            if content is FOLDER:
+                os.mkdir(os.path.join(folder, name))
+            elif content is not None:
                 with open(os.path.join(folder, name), 'wb') as file:
                     file.write(content)
         return subprocess.run(command, cwd=folder, stdout=subprocess.PIPE, stderr=subprocess.PIPE)

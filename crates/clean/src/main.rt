@@ -1,9 +1,9 @@
 // Reads the files `appid`, `table` and `body`, wants version 1.0, and prints the cleaned list and an LF; on refusal `refused `,
-// the number, LF. A file that can't be opened counts as empty. A table of more than 65,536 bytes is treated as bad.
-// A read or a write that fails ends it with that error.
+// the number, LF. A file that can't be opened or read counts as empty. A table of more than 65,536 bytes is treated as bad.
+// A write that fails ends it with that error.
 #![tactic(auto)]
 
-ghost use Rattle.std.specs.Io.{ReadsAtMost};
+ghost use Rattle.std.specs.Prelude.{◌≡◌, ◌≤◌, length, take};
 
 use cleaning::Output;
 use full_reads::read_full;
@@ -11,14 +11,16 @@ use refusals::Refusal;
 use std::rt::Files;
 use std::{fs, io};
 
-// The bytes of a file, as many as there is room for. One byte of room more than a bound shows that the file is longer.
-fn read_file(rt: &impl Files, name: &str, room: &mut [u8]) -> io::Result<usize>
-    ensures { ReadsAtMost result room.new }
+// The bytes of a file, as many as there is room for; none where it can't be opened or read. One byte of room more than a bound
+// shows that the file is longer.
+fn read_file(rt: &impl Files, name: &str, room: &mut [u8]) -> usize
+    ensures bound { result ≤ length room.new }
+    ensures first { result ≡ length (take result room.new) }
 {
     let Ok(mut file) = fs::open(rt, name) else {
-        return Ok(0);
+        return 0;
     };
-    read_full(&mut file, room)
+    read_full(&mut file, room).unwrap_or(0)
 }
 
 fn print_refusal(rt: &impl Print, x: Refusal) -> io::Result<()> {
@@ -43,11 +45,11 @@ fn print_cleaned(rt: &impl Print, appid: &[u8], body: &[u8], table: &[u8]) -> io
 
 fn clean_files(rt: &(impl Files + Print)) -> io::Result<()> {
     let mut appid = [0u8; 2049];
-    let a = read_file(rt, "appid", &mut appid)?;
+    let a = read_file(rt, "appid", &mut appid);
     let mut body = [0u8; 65537];
-    let b = read_file(rt, "body", &mut body)?;
+    let b = read_file(rt, "body", &mut body);
     let mut table = [0u8; 65537];
-    let t = read_file(rt, "table", &mut table)?;
+    let t = read_file(rt, "table", &mut table);
     if 65536 < t {
         // no rule, so a bad table
         return print_cleaned(rt, &appid[0..a], &body[0..b], b"!");
