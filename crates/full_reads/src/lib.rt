@@ -27,6 +27,39 @@ pub fn read_full<R: Read>(reader: &mut R, buf: &mut [u8]) -> io::Result<usize>
 #[cfg(test)]
 mod tests {
     use super::*;
+    use std::io::ErrorKind;
+
+    // Gives one byte at a time, and then fails.
+    #[derive(Drop)]
+    struct Fails {
+        left: u8,
+    }
+
+    impl Read for Fails {
+        fn read(&mut self, buf: &mut [u8]) -> io::Result<usize> {
+            if self.left == 0 {
+                return Err(ErrorKind::TimedOut.into());
+            }
+            if buf.is_empty() {
+                return Ok(0);
+            }
+            buf[0] = self.left;
+            self.left -= 1;
+            Ok(1)
+        }
+    }
+
+    // A failed read is told, and what was read before stands at the start.
+    #[test]
+    fn tells_a_failed_read(rt: HostRuntime) {
+        let mut buf = [0u8; 3];
+        let mut reader = Fails { left: 2 };
+        assert!(rt; read_full(&mut reader, &mut buf).is_err());
+        assert!(rt; &buf == &[2, 1, 0]);
+        let mut enough = Fails { left: 3 };
+        assert!(rt; matches!(read_full(&mut enough, &mut buf), Ok(3)));
+        assert!(rt; &buf == &[3, 2, 1]);
+    }
 
     // Into room for three bytes: more, just as many, fewer, none.
     #[test]
