@@ -1,10 +1,9 @@
 -- The digits that `decimal` writes, read again: a number of at most 65535 comes back, without leading zero, and no shorter text of digits
 -- has its value. Assumes nothing.
-use Rattle.std.specs.Prelude.{if◌then◌else◌}
+use Rattle.std.specs.Prelude.{if◌then◌else◌, Some}
 use mathlib.Core.Path.{◌≡◌, refl, sym, ap, ◌∙◌}
 use mathlib.Core.List.{[], ◌∷◌, ◌++◌}
 use mathlib.Core.Bool.{Bool, true, false, and-eq-true_iff}
-use mathlib.Core.Option.{some}
 use Prim.Native.Nat.{ℕ, zero, suc, ◌+◌, ◌-◌, ◌*◌, ◌/◌, ◌%◌, ◌^◌, ◌≤◌, ◌<◌, max}
 use native.Mathlib.Nat.{le_trans, le_of_eq, mul-le-mul_right, mul_assoc, mul-one, one-mul, pow-zero, pow-succ'}
 use native.Mathlib.Omega.{arith}
@@ -60,7 +59,7 @@ decimal_numeral n h = up_to 4 n (omega arith)
 not_empty : (x : Bytes) (b : ℕ) (y : Bytes) → x ≡ b ∷ y → is_empty x ≡ false
 not_empty x b y e = ap is_empty e
 
-pub number_decimal : (n : ℕ) → n ≤ 65535 → number16 (decimal n) ≡ some n
+pub number_decimal : (n : ℕ) → n ≤ 65535 → number16 (decimal n) ≡ Some n
 unfolding number16
 number_decimal n h =
     let N = decimal_numeral n h in

@@ -1,8 +1,8 @@
 -- Decimal numbers read in a loop and written digit by digit. Assumes nothing.
-use mathlib.Core.Path.{◌≡◌, refl, sym, ap, ◌∙◌}
+use mathlib.Core.Path.{◌≡◌, refl, sym, ◌∙◌}
 use mathlib.Core.List.{[], ◌∷◌}
 use mathlib.Core.Bool.{Bool, true, false, ◌&&◌, and-false, and-eq-true_iff}
-use mathlib.Core.Option.{Option, none}
+use Rattle.std.specs.Prelude.{Option, None, Some}
 use Prim.Native.Nat.{ℕ, ◌+◌, ◌-◌, ◌*◌, ◌/◌, ◌%◌, ◌≤◌, ◌<◌}
 use native.Mathlib.Numerals.{add-one}
 use native.Mathlib.Omega.{arith}
@@ -12,9 +12,7 @@ use lib.Dec.{leb}
 use borrow.Author.Tests.{lt-leb, le-leb, leb-true, lt-ltb, le-ltb}
 use borrow.Author.Rules.{rules}
 use Rattle.ascii.specs.Ascii.{Bytes, ◌when◌, all, is_digit, value_from, value, number16, decimal_up_to, decimal}
-use Rattle.ascii.specs.code.Numbers.{number_of, DigitIs, Writes}
-use Rattle.ascii.specs.declared.decimals.Number.{Number}
-use Rattle.ascii.specs.declared.decimals.Number.TheVariants.{Value, Malformed}
+use Rattle.ascii.specs.code.Numbers.{DigitIs, Writes}
 
 -- ---- a digit
 
@@ -58,33 +56,33 @@ unfolding value_from
 no_fall n [] = omega arith
 no_fall n (b ∷ s) = omega (arith, no_fall (n * 10 + (b - 48)) s)
 
-from_over : (n : ℕ) (s : Bytes) → 65535 < n → number_from n s ≡ none
+from_over : (n : ℕ) (s : Bytes) → 65535 < n → number_from n s ≡ None
 unfolding number_from
 from_over n s h = rw (lt-leb (value_from n s) 65535 (omega (arith, no_fall n s)), and-false (all is_digit s))
 
 -- what is read so far is n; what is left decides
-pub record Digits (s : Bytes) (goal : Number) (n i : ℕ) : Type 0 where
+pub record Digits (s : Bytes) (goal : Option ℕ) (n i : ℕ) : Type 0 where
   pub small : n ≤ 65535
-  pub is : number_of (number_from n (drop i s)) ≡ goal
+  pub is : number_from n (drop i s) ≡ goal
 
-pub number_empty : (s : Bytes) → length s ≡ 0 → Malformed ≡ number_of (number16 s)
-unfolding number16 number_of
+pub number_empty : (s : Bytes) → length s ≡ 0 → None ≡ number16 s
+unfolding number16
 number_empty [] h = refl
 number_empty (b ∷ s) h = absurd (omega arith)
 
-pub number_starts : (s : Bytes) → (length s ≡ 0 → ⊥) → Digits s (number_of (number16 s)) 0 0
+pub number_starts : (s : Bytes) → (length s ≡ 0 → ⊥) → Digits s (number16 s) 0 0
 unfolding number16 number_from value
 number_starts [] n = absurd (n refl)
 number_starts (b ∷ s) n = record { small = omega arith; is = refl }
 
-module _ {s : Bytes} {goal : Number} {n i : ℕ} (D : Digits s goal n i) where
-  pub number_ends : length s ≤ i → Value n ≡ goal
-  unfolding number_from all value_from number_of
+module _ {s : Bytes} {goal : Option ℕ} {n i : ℕ} (D : Digits s goal n i) where
+  pub number_ends : length s ≤ i → Some n ≡ goal
+  unfolding number_from all value_from
   number_ends h = (rw (drop_of_length-le s h, le-leb n 65535 D.small)) ∙ D.is
 
   module _ (h : i < length s) where
-    pub number_other : {q : Bool} → q ≡ is_digit (get_or s i 0) → q ≡ false → Malformed ≡ goal
-    unfolding number_from all number_of
+    pub number_other : {q : Bool} → q ≡ is_digit (get_or s i 0) → q ≡ false → None ≡ goal
+    unfolding number_from all
     number_other e f = (rw (drop-cons s i 0 h, sym e ∙ f)) ∙ D.is
 
     module _ {q : Bool} {d : ℕ} (e : q ≡ is_digit (get_or s i 0)) (f : q ≡ true) (g : DigitIs (get_or s i 0) d) where
@@ -92,12 +90,11 @@ module _ {s : Bytes} {goal : Number} {n i : ℕ} (D : Digits s goal n i) where
       unfolding number_from all value_from
       number_step = rw (g.is, add-one, drop-cons s i 0 h, sym e ∙ f)
 
-      pub number_over : {m : ℕ} → m < n * 10 + d → 65535 ≤ m → Malformed ≡ goal
-      unfolding number_of
+      pub number_over : {m : ℕ} → m < n * 10 + d → 65535 ≤ m → None ≡ goal
       number_over k l = (rw (number_step, from_over (n * 10 + d) (drop (i + 1) s) (omega arith))) ∙ D.is
 
       pub number_more : n * 10 + d ≤ 65535 → Digits s goal (n * 10 + d) (i + 1)
-      number_more k = record { small = k; is = ap number_of (sym number_step) ∙ D.is }
+      number_more k = record { small = k; is = sym number_step ∙ D.is }
 
 -- ---- written
 

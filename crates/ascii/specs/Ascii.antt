@@ -1,6 +1,5 @@
 -- Bytes, ASCII text and the tests on them that every other crate uses.
-use Rattle.std.specs.Prelude.{List, [], ◌∷◌, ◌++◌, map, Bool, true, false, ◌&&◌, ◌||◌, not, ℕ, zero, suc, ◌+◌, ◌-◌, ◌*◌, ◌/◌, ◌%◌, length, drop, eqb, leb, ltb, if◌then◌else◌}
-use Rattle.std.proofs.Math.Option.{Option, none, some}
+use Rattle.std.specs.Prelude.{List, [], ◌∷◌, ◌++◌, map, Bool, true, false, ◌&&◌, ◌||◌, not, ℕ, zero, suc, ◌+◌, ◌-◌, ◌*◌, ◌/◌, ◌%◌, length, drop, eqb, leb, ltb, if◌then◌else◌, Option, None, Some}
 use Prim.Native.String.{String, [] as ε, ◌∷◌ as ◌◃◌}
 use Prim.Native.Char.{code}
 
@@ -9,32 +8,32 @@ Bytes = List ℕ
 
 -- an optional value, and then what is made of it
 infixl 10 ◌>>=◌
-abbrev pub ◌>>=◌ {ℓ κ} : {A : Type ℓ} {B : Type κ} → Option A → (A → Option B) → Option B
-none >>= f = none
-some a >>= f = f a
+abbrev pub ◌>>=◌ : {A B : Type 0} → Option A → (A → Option B) → Option B
+None >>= f = None
+Some a >>= f = f a
 
-abbrev pub is_none {ℓ} : {A : Type ℓ} → Option A → Bool
-is_none none = true
-is_none (some a) = false
+abbrev pub is_none : {A : Type 0} → Option A → Bool
+is_none None = true
+is_none (Some a) = false
 
 -- two optional values that are both there and pass a test together
-abbrev pub both_pass {ℓ} : {A : Type ℓ} → (A → A → Bool) → Option A → Option A → Bool
-both_pass p none none = false
-both_pass p none (some b) = false
-both_pass p (some a) none = false
-both_pass p (some a) (some b) = p a b
+abbrev pub both_pass : {A : Type 0} → (A → A → Bool) → Option A → Option A → Bool
+both_pass p None None = false
+both_pass p None (Some b) = false
+both_pass p (Some a) None = false
+both_pass p (Some a) (Some b) = p a b
 
 -- a where the test holds
 infix 12 ◌when◌
-abbrev pub ◌when◌ {ℓ} : {A : Type ℓ} → A → Bool → Option A
-a when true = some a
-a when false = none
+abbrev pub ◌when◌ : {A : Type 0} → A → Bool → Option A
+a when true = Some a
+a when false = None
 
 -- the first of two optional values that is there
 infixr 11 ◌or_else◌
-abbrev pub ◌or_else◌ {ℓ} : {A : Type ℓ} → Option A → Option A → Option A
-none or_else b = b
-some a or_else b = some a
+abbrev pub ◌or_else◌ : {A : Type 0} → Option A → Option A → Option A
+None or_else b = b
+Some a or_else b = Some a
 
 -- ASCII text as bytes: text "com" is 99 ∷ 111 ∷ 109 ∷ []
 abbrev pub text : String → Bytes

@@ -1,36 +1,27 @@
 // Numbers in base ten.
 ghost use Rattle.std.specs.Prelude.{◌≡◌, true, ◌+◌, ◌<◌};
 ghost use Rattle.ascii.specs.Ascii.{is_digit, number16};
-ghost use Rattle.ascii.specs.code.Numbers.{number_of, DigitIs, Writes};
-
-#[derive(Clone, Copy)]
-pub enum Number {
-    Value(u16),
-    Malformed,
-}
+ghost use Rattle.ascii.specs.code.Numbers.{DigitIs, Writes};
 
 // The number that s writes: one or more digits and nothing else, at most 65535 (document 01, of a port, `major` and `minor`).
-pub fn read_number(s: &[u8]) -> Number
-    ensures { result ≡ number_of (number16 s.now) }
+pub fn read_number(s: &[u8]) -> Option<u16>
+    ensures { result ≡ number16 s.now }
 {
-    if s.len() == 0 {
-        return Number::Malformed;
+    if s.is_empty() {
+        return None;
     }
     let mut n: u32 = 0;
-    let mut i = 0;
-    while i < s.len() {
-        let b = s[i];
-        if crate::is_digit(b) {
-            n = n * 10 + digit_value(b);
+    for b in s {
+        if crate::is_digit(*b) {
+            n = n * 10 + digit_value(*b);
             if 65535 < n {
-                return Number::Malformed;
+                return None;
             }
-            i += 1;
         } else {
-            return Number::Malformed;
+            return None;
         }
     }
-    Number::Value(n as u16)
+    Some(n as u16)
 }
 
 // The value of a digit.
@@ -41,7 +32,7 @@ fn digit_value(b: u8) -> u32
     (b - b'0') as u32
 }
 
-// The digits of a number, at the front of the array.
+// The digits of a number, at the front of the array: there is no heap.
 #[derive(Clone, Copy)]
 pub struct Decimal {
     pub digits: [u8; 5],

@@ -15,7 +15,7 @@ use Rattle.ascii.proofs.Scan.{scan_end, scan_stop, scan_more}
 use Rattle.byte_search.specs.code.Ranges.{outside, block_end, place_in}
 
 module _ (lo hi b : ℕ) where
-  pub outside_below : b < lo → true ≡ outside lo hi b
+  pub outside_below : b < lo → ltb b lo ≡ outside lo hi b
   unfolding outside
   outside_below h = rw (lt-ltb b lo h)
 
@@ -159,7 +159,6 @@ pub ruleset range_laws = (
   end_out,
   end_short,
   end_found,
-  end_next,
   end_here,
   end_more,
   rules,

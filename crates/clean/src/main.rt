@@ -5,11 +5,11 @@
 
 ghost use Rattle.std.specs.Prelude.{◌≡◌, ◌≤◌, length, take};
 
-use cleaning::Output;
 use full_reads::read_full;
 use refusals::Refusal;
 use std::rt::Files;
 use std::{fs, io};
+use trusted_list::Version;
 
 // The bytes of a file, as many as there is room for; none where it can't be opened or read. One byte of room more than a bound
 // shows that the file is longer.
@@ -24,7 +24,7 @@ fn read_file(rt: &impl Files, name: &str, room: &mut [u8]) -> usize
 }
 
 fn print_refusal(rt: &impl Print, x: Refusal) -> io::Result<()> {
-    println!(rt; "refused {}", refusals::number(x))
+    println!(rt; "refused {}", u16::from(x))
 }
 
 fn print_list(rt: &impl Print, out: &[u8], n: usize) -> io::Result<()> {
@@ -37,9 +37,10 @@ fn print_list(rt: &impl Print, out: &[u8], n: usize) -> io::Result<()> {
 
 fn print_cleaned(rt: &impl Print, appid: &[u8], body: &[u8], table: &[u8]) -> io::Result<()> {
     let mut out = [0u8; 65536];
-    match cleaning::clean(appid, 1, 0, body, table, &mut out) {
-        Output::Refused(x) => print_refusal(rt, x),
-        Output::Length(n) => print_list(rt, &out, n),
+    let wanted = Version { major: 1, minor: 0 };
+    match cleaning::clean(appid, wanted, body, table, &mut out) {
+        Err(x) => print_refusal(rt, x),
+        Ok(n) => print_list(rt, &out, n),
     }
 }
 

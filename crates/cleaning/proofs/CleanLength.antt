@@ -1,9 +1,8 @@
 -- The cleaned list is no longer than the body that it comes from, so refusal 9 never meets it. Assumes nothing.
-use Rattle.std.specs.Prelude.{if◌then◌else◌}
+use Rattle.std.specs.Prelude.{if◌then◌else◌, Some}
 use mathlib.Core.Path.{◌≡◌, refl}
 use mathlib.Core.List.{List, [], ◌∷◌, map}
 use mathlib.Core.Bool.{Bool, true, false}
-use mathlib.Core.Option.{some}
 use Prim.Native.Nat.{ℕ, ◌+◌, ◌≤◌}
 use native.Mathlib.Omega.{arith}
 use lib.ListN.{length, length-append}
@@ -54,7 +53,7 @@ smaller major minor xs ys h = omega arith
 
 -- ---- the cleaned list
 
-pub clean_length : (appid table : Bytes) (major minor : ℕ) (body : Bytes) (ids : List Bytes) → selected major minor body ≡ some ids
+pub clean_length : (appid table : Bytes) (major minor : ℕ) (body : Bytes) (ids : List Bytes) → selected major minor body ≡ Some ids
     → length (cleaned_list appid major minor body table) ≤ length body
 unfolding cleaned_list entries kept
 clean_length appid table major minor body ids e =

@@ -1,6 +1,6 @@
 -- Document 01's example of cleaning, by computation ("The list", last paragraphs).
 use mathlib.Core.Path.{◌≡◌, refl}
-use mathlib.Core.Option.{none}
+use Rattle.std.specs.Prelude.{None}
 use Prim.Native.Nat.{◌≤◌}
 use lib.ListN.{length}
 use borrow.Author.Tests.{le-ltb}
@@ -35,7 +35,7 @@ unfolding all any filter_by take_while drop_while last_of join_head split_at pre
 everything = tt
 
 -- nothing is refused
-pub example_taken : clean_refusal appid 1 0 body table ≡ none
+pub example_taken : clean_refusal appid 1 0 body table ≡ None
 unfolding everything
 example_taken = refl
 

@@ -3,8 +3,8 @@ use borrow.Author.Rules.{rules}
 use Rattle.entries.proofs.Walks.{end_less}
 use Rattle.cleaning.proofs.SizeLaws.{fits_first, fits_later, id_first, id_later, size_starts, size_over, size_less, size_skip, keep_short, size_fits, size_keep}
 use Rattle.cleaning.proofs.WriteLaws.{opening_first, opening_later, id_wrote, write_starts, write_over, write_less, write_pass, write_size, write_add}
-use Rattle.cleaning.proofs.PrepareLaws.{prepare_bad, prepare_foreign, prepare_list, prepare_table, prepare_listed, prepared_listed}
-use Rattle.cleaning.proofs.ListLaws.{digits_inside, digits_length, digits_few, digits_wrote, head_wrote, room_owned, room_there, room_short, room_body, room_told, sum_first, sum_second, sum_third, list_full, head_room, ids_room, list_done, clean_refused, clean_listed}
+use Rattle.cleaning.proofs.PrepareLaws.{prepare_bad, prepare_foreign, prepare_selected, prepared_as}
+use Rattle.cleaning.proofs.ListLaws.{digits_inside, digits_length, digits_few, digits_wrote, head_wrote, room_body, room_told, sum_first, sum_second, sum_third, list_full, head_room, ids_room, list_done, clean_refused, clean_listed}
 
 pub ruleset laws = (fits_first, fits_later, id_first, id_later, opening_first, opening_later, id_wrote, rules)
 
@@ -17,14 +17,14 @@ pub ruleset list_last = (list_done)
 
 pub ruleset write_loop = (write_starts, write_over, write_less, end_less, write_size, rules)
 
-pub ruleset preparing = (prepare_bad, prepare_foreign, prepare_list, prepare_table, prepare_listed, rules)
+pub ruleset preparing = (prepare_bad, prepare_foreign, prepare_selected, rules)
 
 pub ruleset numbers = (digits_inside, digits_length, digits_few, digits_wrote, rules)
 
 pub ruleset heading = (head_wrote, rules)
 
-pub ruleset rooms = (room_owned, room_there, room_short, room_body, room_told, sum_first, sum_second, sum_third, rules)
+pub ruleset rooms = (room_body, room_told, sum_first, sum_second, sum_third, rules)
 
-pub ruleset listing = (room_owned, room_there, room_short, list_full, head_room, ids_room, rules)
+pub ruleset listing = (list_full, head_room, ids_room, rules)
 
-pub ruleset cleaning = (prepared_listed, clean_refused, clean_listed, rules)
+pub ruleset cleaning = (prepared_as, clean_refused, clean_listed, rules)

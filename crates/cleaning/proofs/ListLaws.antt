@@ -1,9 +1,8 @@
 -- The list around the ids: its length, its bytes, the whole call.
-use Rattle.std.specs.Prelude.{if◌then◌else◌}
+use Rattle.std.specs.Prelude.{if◌then◌else◌, Option, None, Some, Result, Ok, Err}
 use mathlib.Core.Path.{◌≡◌, refl, sym, ap, ◌∙◌}
 use mathlib.Core.Bool.{Bool, true, false}
 use mathlib.Core.List.{◌++◌}
-use mathlib.Core.Option.{Option, none, some}
 use Prim.Native.Nat.{ℕ, ◌+◌, ◌-◌, ◌≤◌, ◌<◌}
 use native.Mathlib.Omega.{arith}
 use mir.Syntax.{w64}
@@ -19,19 +18,13 @@ use Rattle.normal_forms.specs.code.Writing.{Wrote}
 use Rattle.normal_forms.proofs.Writings.{wrote_is, wrote_place, wrote_length, wrote_then}
 use Rattle.refusals.specs.declared.Refusal.{Refusal}
 use Rattle.refusals.specs.declared.Refusal.TheVariants.{Full}
-use Rattle.trusted_list.specs.TrustedList.{entries, Accepted}
-use Rattle.trusted_list.proofs.Acceptance.{accepted_selects}
-use Rattle.entries.specs.code.Owner.{Owned}
-use Rattle.entries.specs.code.Reading.{IdsThere, entries_at}
-use Rattle.entries.specs.declared.Owner.{Owner}
+use Rattle.trusted_list.specs.TrustedList.{Accepted}
+use Rattle.trusted_list.proofs.Acceptance.{Selects, accepted_selects}
+use Rattle.entries.specs.declared.selected.Selected.{Selected}
 use Rattle.cleaning.specs.Clean.{render, cleaned_list, clean_refusal, not_cleaned, cleaned, fitting, or_clean, clean}
-use Rattle.cleaning.specs.code.Meaning.{ListedAt, Prepares, names, ids_text, list_head, Cleans, refuses, writes}
-use Rattle.cleaning.specs.declared.Output.{Output}
-use Rattle.cleaning.specs.declared.Output.TheVariants.{Refused as NotWritten, Length}
-use Rattle.cleaning.specs.declared.Ready.{Ready}
-use Rattle.cleaning.specs.declared.Ready.TheVariants.{Refused, Listed}
+use Rattle.cleaning.specs.code.Meaning.{ListedAs, Prepares, names, names_of, list_of, ids_text, list_head, Cleans, refuses, writes}
 use Rattle.cleaning.proofs.CleanLength.{clean_length}
-use Rattle.cleaning.proofs.PrepareLaws.{refusal_accepts, prepared_refusal, prepared_listed}
+use Rattle.cleaning.proofs.PrepareLaws.{refusal_accepts, prepared_refusal, Ready, prepared_list}
 
 -- ---- numbers
 
@@ -50,10 +43,13 @@ module _ (n : ℕ) {d : Decimal} (W : Writes n d) (w : length d.digits ≡ 5) wh
 
 -- ---- the list in three parts
 
-list_parts : (appid : Bytes) (major minor : ℕ) (body table : Bytes) (ids : ℕ) → entries_at body ids ≡ entries major minor body
-    → cleaned_list appid major minor body table ≡ (list_head major minor ++ ids_text true (names appid table (entries_at body ids))) ++ text "]}]}"
-unfolding cleaned_list render list_head ids_text names
-list_parts appid major minor body table ids e = rw e
+list_parts : (major minor : ℕ) (l : Selected) → list_of major minor l ≡ (list_head major minor ++ ids_text true (names_of l)) ++ text "]}]}"
+unfolding render list_head ids_text
+list_parts major minor l = refl
+
+list_is : (major minor : ℕ) (l : Selected) → ListedAs major minor l → cleaned_list l.appid.now major minor l.body.now l.table.now ≡ list_of major minor l
+unfolding cleaned_list names
+list_is major minor l L = rw L.is
 
 head_length : (major minor : ℕ) → length (list_head major minor) ≡ 56 + length (decimal major) + length (decimal minor)
 unfolding list_head
@@ -74,44 +70,38 @@ head_wrote major minor {o} h A B C D E =
     let k : length (p ++ x ++ q ++ y) ≡ 47 + length x + length y = omega (arith, length-append (p ++ x ++ q) y) in
     wrote_then (wrote_then (wrote_then (wrote_then A B (omega arith)) C (omega arith)) D (omega arith)) E (omega arith)
 
-module _ {appid : Bytes} {major minor : ℕ} {body table : Bytes} {o : Owner} {ids : ℕ} (L : ListedAt appid major minor body table o ids) where
-  parts : cleaned_list appid major minor body table ≡ (list_head major minor ++ ids_text true (names appid table (entries_at body ids))) ++ text "]}]}"
-  parts = list_parts appid major minor body table ids L.is
+module _ {major minor : ℕ} {l : Selected} (L : ListedAs major minor l) where
+  parts : list_of major minor l ≡ (list_head major minor ++ ids_text true (names_of l)) ++ text "]}]}"
+  parts = list_parts major minor l
 
-  list_length : length (cleaned_list appid major minor body table) ≡ length (list_head major minor) + length (ids_text true (names appid table (entries_at body ids))) + 4
+  list_length : length (list_of major minor l) ≡ length (list_head major minor) + length (ids_text true (names_of l)) + 4
   list_length =
       omega (
         arith,
         ap length parts,
-        length-append (list_head major minor ++ ids_text true (names appid table (entries_at body ids))) (text "]}]}"),
-        length-append (list_head major minor) (ids_text true (names appid table (entries_at body ids))),
+        length-append (list_head major minor ++ ids_text true (names_of l)) (text "]}]}"),
+        length-append (list_head major minor) (ids_text true (names_of l)),
       )
 
+  selects : Selects major minor l.body.now
+  selects = accepted_selects major minor l.body.now L.accepted
+
   -- the list is never longer than the body
-  no_longer : length (cleaned_list appid major minor body table) ≤ length body
-  no_longer = let S = accepted_selects major minor body (refusal_accepts appid major minor body table L.none_fits) in clean_length appid table major minor body S.ids S.is
+  no_longer : length (list_of major minor l) ≤ length l.body.now
+  no_longer = omega (arith, ap length (list_is major minor l L), clean_length l.appid.now l.table.now major minor l.body.now selects.ids selects.is)
 
   -- ---- room
 
-  pub room_owned : Owned appid table o
-  room_owned = L.owned
+  pub room_body : {n : ℕ} (room : ℕ) → n ≡ length l.body.now → n ≤ room → true ≡ leb (length (list_of major minor l)) room
+  room_body room e h = sym (le-leb (length (list_of major minor l)) room (omega (arith, no_longer)))
 
-  pub room_there : IdsThere body ids
-  room_there = L.there
-
-  pub room_short : length body ≤ 65536
-  room_short = L.short
-
-  pub room_body : (room : ℕ) → length body ≤ room → true ≡ leb (length (cleaned_list appid major minor body table)) room
-  room_body room h = sym (le-leb (length (cleaned_list appid major minor body table)) room (omega (arith, no_longer)))
-
-  module _ {n a b : ℕ} (e : n ≡ length (ids_text true (names appid table (entries_at body ids)))) (f : a ≡ length (decimal major)) (g : b ≡ length (decimal minor)) where
-    pub room_told : (room : ℕ) → leb (n + a + b + 60) room ≡ leb (length (cleaned_list appid major minor body table)) room
+  module _ {n a b : ℕ} (e : n ≡ length (ids_text true (names_of l))) (f : a ≡ length (decimal major)) (g : b ≡ length (decimal minor)) where
+    pub room_told : (room : ℕ) → leb (n + a + b + 60) room ≡ leb (length (list_of major minor l)) room
     room_told room = ap (λ (k : ℕ). leb k room) (omega (arith, list_length, head_length major minor))
 
-  module _ {n a : ℕ} (e : n ≡ length (ids_text true (names appid table (entries_at body ids)))) (f : a ≤ 5) where
+  module _ {n a : ℕ} (e : n ≡ length (ids_text true (names_of l))) (f : a ≤ 5) where
     ids_small : n ≤ 65536
-    ids_small = omega (arith, list_length, no_longer, L.short)
+    ids_small = omega (arith, list_length, no_longer, selects.short)
 
     pub sum_first : Fits w64 (n + a)
     sum_first = record { fits = omega (arith, ids_small) }
@@ -125,62 +115,62 @@ module _ {appid : Bytes} {major minor : ℕ} {body table : Bytes} {o : Owner} {i
 
   -- ---- the bytes
 
-  module _ {t : Bool} (before : Bytes) (e : t ≡ leb (length (cleaned_list appid major minor body table)) (length before)) where
-    pub list_full : t ≡ false → Cleans before before (fitting (length before) (cleaned_list appid major minor body table)) (NotWritten Full)
-    list_full h = rw (go (leb-false (length (cleaned_list appid major minor body table)) (length before) (sym e ∙ h))) (refuses refl)
+  module _ {t : Bool} (before : Bytes) (e : t ≡ leb (length (list_of major minor l)) (length before)) where
+    pub list_full : t ≡ false → Cleans before before (fitting (length before) (list_of major minor l)) (Err Full)
+    list_full h = rw (go (leb-false (length (list_of major minor l)) (length before) (sym e ∙ h))) (refuses refl)
       where
-        go : length before < length (cleaned_list appid major minor body table) → fitting (length before) (cleaned_list appid major minor body table) ≡ not_cleaned Full
-        go k = unfold fitting in (rw (lt-ltb (length before) (length (cleaned_list appid major minor body table)) k))
+        go : length before < length (list_of major minor l) → fitting (length before) (list_of major minor l) ≡ not_cleaned Full
+        go k = unfold fitting in (rw (lt-ltb (length before) (length (list_of major minor l)) k))
 
     module _ (h : t ≡ true) where
-      fits : length (cleaned_list appid major minor body table) ≤ length before
-      fits = leb-true (length (cleaned_list appid major minor body table)) (length before) (sym e ∙ h)
+      fits : length (list_of major minor l) ≤ length before
+      fits = leb-true (length (list_of major minor l)) (length before) (sym e ∙ h)
 
       pub head_room : length (list_head major minor) ≤ length before
       head_room = omega (arith, fits, list_length)
 
       module _ {o₁ : Bytes} {a : ℕ} (W : Wrote (list_head major minor) 0 before o₁ a) where
-        pub ids_room : a + length (ids_text true (names appid table (entries_at body ids))) ≤ length o₁
+        pub ids_room : a + length (ids_text true (names_of l)) ≤ length o₁
         ids_room = omega (arith, fits, list_length, wrote_place W (omega (arith, head_room)), wrote_length W (omega (arith, head_room)))
 
-        pub list_done : {o₂ o₃ : Bytes} {b n : ℕ} → Wrote (ids_text true (names appid table (entries_at body ids))) a o₁ o₂ b → Wrote (text "]}]}") b o₂ o₃ n
-            → Cleans before o₃ (fitting (length before) (cleaned_list appid major minor body table)) (Length n)
+        pub list_done : {o₂ o₃ : Bytes} {b n : ℕ} → Wrote (ids_text true (names_of l)) a o₁ o₂ b → Wrote (text "]}]}") b o₂ o₃ n
+            → Cleans before o₃ (fitting (length before) (list_of major minor l)) (Ok n)
         list_done {o₂} {o₃} {b} {n} U X = rw (go fits) (writes place is)
           where
-            go : length (cleaned_list appid major minor body table) ≤ length before → fitting (length before) (cleaned_list appid major minor body table) ≡ cleaned (cleaned_list appid major minor body table)
-            go k = unfold fitting in (rw (le-ltb (length before) (length (cleaned_list appid major minor body table)) k))
+            go : length (list_of major minor l) ≤ length before → fitting (length before) (list_of major minor l) ≡ cleaned (list_of major minor l)
+            go k = unfold fitting in (rw (le-ltb (length before) (length (list_of major minor l)) k))
 
-            whole : Wrote (cleaned_list appid major minor body table) 0 before o₃ n
-            whole = rw parts (wrote_then (wrote_then W U (omega (arith, fits, list_length))) X (omega (arith, fits, list_length, length-append (list_head major minor) (ids_text true (names appid table (entries_at body ids))))))
+            whole : Wrote (list_of major minor l) 0 before o₃ n
+            whole = rw parts (wrote_then (wrote_then W U (omega (arith, fits, list_length))) X (omega (arith, fits, list_length, length-append (list_head major minor) (ids_text true (names_of l)))))
 
-            place : n ≡ length (cleaned_list appid major minor body table)
+            place : n ≡ length (list_of major minor l)
             place = omega (arith, wrote_place whole (omega (arith, fits)))
 
-            is : o₃ ≡ cleaned_list appid major minor body table ++ drop (length (cleaned_list appid major minor body table)) before
+            is : o₃ ≡ list_of major minor l ++ drop (length (list_of major minor l)) before
             is =
-                let z : 0 + length (cleaned_list appid major minor body table) ≡ length (cleaned_list appid major minor body table) = omega arith in
-                wrote_is whole (omega (arith, fits)) ∙ ap (λ (k : ℕ). cleaned_list appid major minor body table ++ drop k before) z
+                let z : 0 + length (list_of major minor l) ≡ length (list_of major minor l) = omega arith in
+                wrote_is whole (omega (arith, fits)) ∙ ap (λ (k : ℕ). list_of major minor l ++ drop k before) z
 
 -- ---- the whole call
 
-module _ (appid : Bytes) (major minor : ℕ) (body table before : Bytes) {w : Ready} (P : Prepares appid major minor body table w) where
-  pub clean_refused : {x : Refusal} → w ≡ Refused x → Cleans before before (clean appid major minor body table before) (NotWritten x)
+module _ (appid : Bytes) (major minor : ℕ) (body table before : Bytes) {w : Result Selected Refusal} (P : Prepares appid major minor body table w) where
+  pub clean_refused : {x : Refusal} → w ≡ Err x → Cleans before before (clean appid major minor body table before) (Err x)
   clean_refused {x} h = rw (go (prepared_refusal P h)) (refuses refl)
     where
-      go : clean_refusal appid major minor body table ≡ some x → clean appid major minor body table before ≡ not_cleaned x
+      go : clean_refusal appid major minor body table ≡ Some x → clean appid major minor body table before ≡ not_cleaned x
       go e = unfold clean or_clean in (rw e)
 
-  pub clean_listed : {o : Owner} {p : ℕ} {after : Bytes} {r : Output} → w ≡ Listed o p
-      → Cleans before after (fitting (length before) (cleaned_list appid major minor body table)) r → Cleans before after (clean appid major minor body table before) r
-  clean_listed {r} h C = rw (go (prepared_listed P h).none_fits) C
+  pub clean_listed : {l : Selected} {after : Bytes} {r : Result ℕ Refusal} → w ≡ Ok l
+      → Cleans before after (fitting (length before) (list_of major minor l)) r → Cleans before after (clean appid major minor body table before) r
+  clean_listed {l} {r} h C = rw (go (prepared_list P h)) C
     where
-      go : clean_refusal appid major minor body table ≡ none → clean appid major minor body table before ≡ fitting (length before) (cleaned_list appid major minor body table)
-      go e = unfold clean or_clean in (rw e)
+      go : Ready appid major minor body table l → clean appid major minor body table before ≡ fitting (length before) (list_of major minor l)
+      go R = unfold clean or_clean in (rw (R.none_fits, ← list_is major minor l R.listed_as, R.appid_is, R.body_is, R.table_is))
 
 -- ---- a list that was written
 
 pub record Taken (appid : Bytes) (major minor : ℕ) (body table list : Bytes) : Type 0 where
-  pub none_fits : clean_refusal appid major minor body table ≡ none
+  pub none_fits : clean_refusal appid major minor body table ≡ None
   pub accepted : Accepted major minor body
   pub is : cleaned_list appid major minor body table ≡ list
 
@@ -196,8 +186,8 @@ taken appid major minor body table before list e = go (clean_refusal appid major
     is_list e = fitted (ltb (length before) (length (cleaned_list appid major minor body table))) (cleaned_list appid major minor body table) (unfold fitting in e)
 
     go : (o : Option Refusal) → clean_refusal appid major minor body table ≡ o → or_clean o (fitting (length before) (cleaned_list appid major minor body table)) ≡ cleaned list → Taken appid major minor body table list
-    go (some x) f e = let y : not_cleaned x ≡ cleaned list = unfold or_clean in e in let z : ◌≡◌ {A = ℕ} 0 1 = cc in absurd (omega arith)
-    go none f e = record { none_fits = f; accepted = refusal_accepts appid major minor body table f; is = is_list (unfold or_clean in e) }
+    go (Some x) f e = let y : not_cleaned x ≡ cleaned list = unfold or_clean in e in let z : ◌≡◌ {A = ℕ} 0 1 = cc in absurd (omega arith)
+    go None f e = record { none_fits = f; accepted = refusal_accepts appid major minor body table f; is = is_list (unfold or_clean in e) }
 
 -- it has at most 65,536 bytes, as the body has
 pub cleaned_small : (appid : Bytes) (major minor : ℕ) (body table before list : Bytes) → clean appid major minor body table before ≡ cleaned list → length list ≤ 65536

@@ -2,7 +2,7 @@
 use mathlib.Core.Path.{◌≡◌, refl, sym, ap, ◌∙◌}
 use mathlib.Core.List.{List, [], ◌∷◌, ◌++◌, map, append_assoc}
 use mathlib.Core.Bool.{Bool, true, false, and-eq-true_iff}
-use mathlib.Core.Option.{some}
+use Rattle.std.specs.Prelude.{Some}
 use Prim.Native.Nat.{ℕ, zero, suc, ◌≤◌}
 use native.Mathlib.Nat.{le_of_suc-le-suc, not-suc-le-zero}
 use native.Mathlib.Omega.{arith}
@@ -236,5 +236,5 @@ module _ (major minor : ℕ) (ids : List Bytes) where
   render_is = render_text ∙ sym list_text_lem
 
   -- what is written reads to the list that was meant
-  pub render_reads : major ≤ 65535 → minor ≤ 65535 → all (all is_plain_byte) ids ≡ true → read_json (render major minor ids) ≡ some (list_tree major minor ids)
+  pub render_reads : major ≤ 65535 → minor ≤ 65535 → all (all is_plain_byte) ids ≡ true → read_json (render major minor ids) ≡ Some (list_tree major minor ids)
   render_reads h k e = rw render_is (text_reads (list_text major minor ids) (list_tree major minor ids) (unfold list_text peek is_blank in refl) (list_value major minor ids h k e 12 []))

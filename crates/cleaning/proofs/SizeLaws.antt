@@ -1,5 +1,5 @@
 -- The length of the ids as they are written, entry after entry.
-use Rattle.std.specs.Prelude.{if◌then◌else◌}
+use Rattle.std.specs.Prelude.{if◌then◌else◌, Option, None, Some}
 use mathlib.Core.Path.{◌≡◌, refl, sym, ap, ◌∙◌}
 use mathlib.Core.Bool.{Bool, true, false}
 use mathlib.Core.List.{List, [], ◌∷◌, ◌++◌, map}
@@ -13,15 +13,10 @@ use borrow.Author.Tests.{ne_eqb}
 use Rattle.ascii.specs.Ascii.{Bytes, text, prefixed, join_with}
 use Rattle.origin.specs.Origin.{normal_form}
 use Rattle.normal_forms.proofs.NormalForms.{normal_short}
-use Rattle.json_text.specs.declared.Next.{Next}
-use Rattle.json_text.specs.declared.Next.TheVariants.{At, Bad}
 use Rattle.trusted_list.specs.code.Entries.{first_entry}
-use Rattle.entries.specs.code.Owner.{Owned}
-use Rattle.entries.specs.code.Reading.{Reads, IdsThere, entries_at, left}
+use Rattle.entries.specs.code.Reading.{ReadsOf, IdsThere, entries_at, left}
 use Rattle.entries.specs.declared.Cause.{Cause}
-use Rattle.entries.specs.declared.Owner.{Owner}
 use Rattle.entries.specs.declared.Entry.{Entry}
-use Rattle.entries.specs.declared.Verdict.TheVariants.{Kept, Discarded}
 use Rattle.entries.proofs.Walks.{kept_none, Walk, walk_starts, walk_over, Turn, turn, next_less, kept_held, kept_first, dropped_first}
 use Rattle.cleaning.specs.Clean.{quoted}
 use Rattle.cleaning.specs.code.Meaning.{names, opening, id_text, ids_text}
@@ -47,12 +42,12 @@ id_length true x = omega (arith, length-append x (text "\""))
 id_length false x = omega (arith, length-append x (text "\""))
 
 -- the normal forms, over one entry
-module _ {appid : Bytes} {o : Owner} {table body after : Bytes} {turns : ℕ} {es : List Bytes} {r : Entry} (T : Turn appid o table body after turns es r) where
-  pub names_more : r.verdict ≡ Kept → names appid table es ≡ normal_form T.entry ∷ names appid table T.rest
+module _ {appid table body after : Bytes} {turns : ℕ} {es : List Bytes} {r : Entry} (T : Turn appid table body after turns es r) where
+  pub names_more : r.cause ≡ None → names appid table es ≡ normal_form T.entry ∷ names appid table T.rest
   unfolding names
   names_more g = ap (map normal_form) (kept_first T g)
 
-  pub names_less : {c : Cause} → r.verdict ≡ Discarded c → names appid table es ≡ names appid table T.rest
+  pub names_less : {c : Cause} → r.cause ≡ Some c → names appid table es ≡ names appid table T.rest
   unfolding names
   names_less g = ap (map normal_form) (dropped_first T g)
 
@@ -86,32 +81,32 @@ module _ (first : Bool) (e : Bytes) (h : length e ≤ 512) {n : ℕ} (l : n ≡ 
 -- ---- the loop
 
 -- the entries es are to come, after ids of n bytes
-pub record Sizes (appid : Bytes) (o : Owner) (table body : Bytes) (goal : ℕ) (held : Bytes) (at : Next) (n : ℕ) : Type 0 where
+pub record Sizes (appid table body : Bytes) (goal : ℕ) (held : Bytes) (at : Option ℕ) (n : ℕ) : Type 0 where
   pub turns : ℕ
   pub short : length body ≤ 65536
   pub small : n ≤ 515 * turns
   pub es : List Bytes
-  pub walk : Walk appid o table body held turns at es
+  pub walk : Walk appid table body held turns at es
   pub is : n + length (ids_text (eqb n 0) (names appid table es)) ≡ goal
 
-pub size_starts : (appid : Bytes) (o : Owner) (table body held : Bytes) (ids : ℕ) {at : Next} → Owned appid table o → IdsThere body ids → length body ≤ 65536 → length held ≡ 512 → at ≡ first_entry body ids
-    → Sizes appid o table body (length (ids_text true (names appid table (entries_at body ids)))) held at 0
-size_starts appid o table body held ids O T l w e = record { turns = 0; short = l; small = omega arith; es = entries_at body ids; walk = walk_starts appid o table body held ids O T w e; is = omega arith }
+pub size_starts : (appid table body held : Bytes) (ids : ℕ) {at : Option ℕ} → IdsThere body ids → length body ≤ 65536 → length held ≡ 512 → at ≡ first_entry body ids
+    → Sizes appid table body (length (ids_text true (names appid table (entries_at body ids)))) held at 0
+size_starts appid table body held ids T l w e = record { turns = 0; short = l; small = omega arith; es = entries_at body ids; walk = walk_starts appid table body held ids T w e; is = omega arith }
 
-module _ {appid : Bytes} {o : Owner} {table body : Bytes} {goal : ℕ} {held : Bytes} {at : Next} {n : ℕ} (S : Sizes appid o table body goal held at n) where
-  pub size_over : at ≡ Bad → n ≡ goal
+module _ {appid table body : Bytes} {goal : ℕ} {held : Bytes} {at : Option ℕ} {n : ℕ} (S : Sizes appid table body goal held at n) where
+  pub size_over : at ≡ None → n ≡ goal
   size_over h =
       let x = rw (walk_over S.walk h, names_none appid table, ids_none (eqb n 0)) at S.is in
       omega arith
 
-  module _ {i : ℕ} (h : at ≡ At i) {after : Bytes} {r : Entry} (R : Reads body i appid o table held after r) where
-    T : Turn appid o table body after S.turns S.es r
+  module _ {i : ℕ} (h : at ≡ Some i) {after : Bytes} {r : Entry} (R : ReadsOf body i appid table held after r) where
+    T : Turn appid table body after S.turns S.es r
     T = turn S.walk h R
 
     pub size_less : left body r.next < left body at
     size_less = next_less S.walk h R
 
-    pub size_skip : {c : Cause} → r.verdict ≡ Discarded c → Sizes appid o table body goal after r.next n
+    pub size_skip : {c : Cause} → r.cause ≡ Some c → Sizes appid table body goal after r.next n
     size_skip g = record {
       turns = suc S.turns;
       short = S.short;
@@ -125,14 +120,14 @@ module _ {appid : Bytes} {o : Owner} {table body : Bytes} {goal : ℕ} {held : B
       pub keep_short : length p ≤ 512
       keep_short = rw E (simp length-take (omega (arith, T.walk.room)))
 
-      module _ (g : r.verdict ≡ Kept) {m : ℕ} (M : m ≡ length (id_text (eqb n 0) (normal_form p))) where
+      module _ (g : r.cause ≡ None) {m : ℕ} (M : m ≡ length (id_text (eqb n 0) (normal_form p))) where
         few : m ≤ 515
         few = omega (arith, id_short (eqb n 0) p keep_short)
 
         pub size_fits : Fits w64 (n + m)
         size_fits = record { fits = omega (arith, S.small, T.some_left, S.short, few) }
 
-        pub size_keep : Sizes appid o table body goal after r.next (n + m)
+        pub size_keep : Sizes appid table body goal after r.next (n + m)
         size_keep = record { turns = suc S.turns; short = S.short; small = omega (arith, S.small, few); es = T.rest; walk = T.walk; is = is }
           where
             t : Bytes

@@ -1,4 +1,5 @@
 -- The ids written one behind the other.
+use Rattle.std.specs.Prelude.{Option, None, Some}
 use mathlib.Core.Path.{◌≡◌, refl, sym, ap, ◌∙◌}
 use mathlib.Core.Bool.{Bool, true, false}
 use mathlib.Core.List.{List, [], ◌∷◌, ◌++◌, append_assoc, append-nil}
@@ -11,15 +12,10 @@ use Rattle.ascii.specs.Ascii.{Bytes}
 use Rattle.origin.specs.Origin.{normal_form}
 use Rattle.normal_forms.specs.code.Writing.{Wrote}
 use Rattle.normal_forms.proofs.Writings.{nothing_wrote, wrote_place, wrote_length, wrote_then}
-use Rattle.json_text.specs.declared.Next.{Next}
-use Rattle.json_text.specs.declared.Next.TheVariants.{At, Bad}
 use Rattle.trusted_list.specs.code.Entries.{first_entry}
-use Rattle.entries.specs.code.Owner.{Owned}
-use Rattle.entries.specs.code.Reading.{Reads, IdsThere, entries_at, left}
+use Rattle.entries.specs.code.Reading.{ReadsOf, IdsThere, entries_at, left}
 use Rattle.entries.specs.declared.Cause.{Cause}
-use Rattle.entries.specs.declared.Owner.{Owner}
 use Rattle.entries.specs.declared.Entry.{Entry}
-use Rattle.entries.specs.declared.Verdict.TheVariants.{Kept, Discarded}
 use Rattle.entries.proofs.Walks.{Walk, walk_starts, walk_over, Turn, turn, next_less, kept_held}
 use Rattle.cleaning.specs.code.Meaning.{names, opening, id_text, ids_text, IdWrote}
 use Rattle.cleaning.proofs.SizeLaws.{ids_more, ids_none, id_some, names_none, names_more, names_less}
@@ -53,46 +49,46 @@ id_wrote first e at o {o₁} {o₂} {o₃} {a} {b} {r} W U Z = record { is = go 
 -- ---- the loop
 
 -- the entries es are to come, and the ids before them are written
-pub record Written (appid : Bytes) (o : Owner) (table body goal : Bytes) (begin : ℕ) (before out held : Bytes) (at : Next) (to : ℕ) : Type 0 where
+pub record Written (appid table body goal : Bytes) (begin : ℕ) (before out held : Bytes) (at : Option ℕ) (to : ℕ) : Type 0 where
   pub kept : length out ≡ length before
   pub room : begin + length goal ≤ length before
   pub done : Bytes
   pub wrote : Wrote done begin before out to
   pub turns : ℕ
   pub es : List Bytes
-  pub walk : Walk appid o table body held turns at es
+  pub walk : Walk appid table body held turns at es
   pub is : done ++ ids_text (eqb to begin) (names appid table es) ≡ goal
 
-pub write_starts : (appid : Bytes) (o : Owner) (table body held : Bytes) (ids begin : ℕ) (before : Bytes) {at : Next} → Owned appid table o → IdsThere body ids
+pub write_starts : (appid table body held : Bytes) (ids begin : ℕ) (before : Bytes) {at : Option ℕ} → IdsThere body ids
     → begin + length (ids_text true (names appid table (entries_at body ids))) ≤ length before → length held ≡ 512 → at ≡ first_entry body ids
-    → Written appid o table body (ids_text true (names appid table (entries_at body ids))) begin before before held at begin
-write_starts appid o table body held ids begin before O T l w e = record {
+    → Written appid table body (ids_text true (names appid table (entries_at body ids))) begin before before held at begin
+write_starts appid table body held ids begin before T l w e = record {
   kept = refl;
   room = l;
   done = [];
   wrote = nothing_wrote begin before;
   turns = 0;
   es = entries_at body ids;
-  walk = walk_starts appid o table body held ids O T w e;
+  walk = walk_starts appid table body held ids T w e;
   is = rw (eq-eqb begin begin refl);
 }
 
-module _ {appid : Bytes} {o : Owner} {table body goal : Bytes} {begin : ℕ} {before out held : Bytes} {at : Next} {to : ℕ} (S : Written appid o table body goal begin before out held at to) where
-  pub write_over : at ≡ Bad → Wrote goal begin before out to
+module _ {appid table body goal : Bytes} {begin : ℕ} {before out held : Bytes} {at : Option ℕ} {to : ℕ} (S : Written appid table body goal begin before out held at to) where
+  pub write_over : at ≡ None → Wrote goal begin before out to
   write_over h =
       let x : S.done ≡ goal = sym (append-nil S.done) ∙ ap (λ (z : Bytes). S.done ++ z) (sym (ids_none (eqb to begin)))
       ∙ ap (λ (l : List Bytes). S.done ++ ids_text (eqb to begin) l) (sym (names_none appid table))
       ∙ ap (λ (l : List Bytes). S.done ++ ids_text (eqb to begin) (names appid table l)) (sym (walk_over S.walk h)) ∙ S.is in
       rw (← x) S.wrote
 
-  module _ {i : ℕ} (h : at ≡ At i) {after : Bytes} {r : Entry} (R : Reads body i appid o table held after r) where
-    T : Turn appid o table body after S.turns S.es r
+  module _ {i : ℕ} (h : at ≡ Some i) {after : Bytes} {r : Entry} (R : ReadsOf body i appid table held after r) where
+    T : Turn appid table body after S.turns S.es r
     T = turn S.walk h R
 
     pub write_less : left body r.next < left body at
     write_less = next_less S.walk h R
 
-    pub write_pass : {c : Cause} → r.verdict ≡ Discarded c → Written appid o table body goal begin before out after r.next to
+    pub write_pass : {c : Cause} → r.cause ≡ Some c → Written appid table body goal begin before out after r.next to
     write_pass g = record {
       kept = S.kept;
       room = S.room;
@@ -104,7 +100,7 @@ module _ {appid : Bytes} {o : Owner} {table body goal : Bytes} {begin : ℕ} {be
       is = ap (λ (l : List Bytes). S.done ++ ids_text (eqb to begin) l) (sym (names_less T g)) ∙ S.is;
     }
 
-    module _ (g : r.verdict ≡ Kept) {p : Bytes} (E : p ≡ take r.len after) {out₁ : Bytes} {m : ℕ} (W : IdWrote (eqb to begin) p to out out₁ m) where
+    module _ (g : r.cause ≡ None) {p : Bytes} (E : p ≡ take r.len after) {out₁ : Bytes} {m : ℕ} (W : IdWrote (eqb to begin) p to out out₁ m) where
       abbrev t : Bytes
       t = id_text (eqb to begin) (normal_form T.entry)
 
@@ -131,7 +127,7 @@ module _ {appid : Bytes} {o : Owner} {table body goal : Bytes} {begin : ℕ} {be
       pub write_size : length out₁ ≡ length before
       write_size = wrote_length more (omega (arith, room, length-append S.done t))
 
-      pub write_add : Written appid o table body goal begin before out₁ after r.next m
+      pub write_add : Written appid table body goal begin before out₁ after r.next m
       write_add =
           let d : eqb m begin ≡ false = ne_eqb m begin (λ z. omega (arith, wrote_place more (omega (arith, room, length-append S.done t)), length-append S.done t, id_some (eqb to begin) (normal_form T.entry))) in
           record { kept = write_size; room = S.room; done = S.done ++ t; wrote = more; turns = suc S.turns; es = T.rest; walk = T.walk; is = rw d whole }

@@ -1,6 +1,5 @@
 -- Cleaning (document 01, "The list", last paragraphs).
-use Rattle.std.specs.Prelude.{List, ◌++◌, map, not, ℕ, length, ltb, if◌then◌else◌}
-use Rattle.std.proofs.Math.Option.{Option, none, some}
+use Rattle.std.specs.Prelude.{List, ◌++◌, map, not, ℕ, length, ltb, if◌then◌else◌, Option, None, Some}
 use Prim.Native.Char.{code}
 use Rattle.ascii.specs.Ascii.{Bytes, ◌when◌, ◌or_else◌, is_none, written_over, text, join_with, decimal}
 use Rattle.suffix.specs.Suffix.{read_table}
@@ -48,8 +47,8 @@ unfoldable pub fitting : ℕ → Bytes → Cleaned
 fitting room list = if ltb room (length list) then not_cleaned Full else cleaned list
 
 unfoldable pub or_clean : Option Refusal → Cleaned → Cleaned
-or_clean none c = c
-or_clean (some r) c = not_cleaned r
+or_clean None c = c
+or_clean (Some r) c = not_cleaned r
 
 -- before: the output's bytes before the call
 unfoldable pub clean : Bytes → ℕ → ℕ → Bytes → Bytes → Bytes → Cleaned

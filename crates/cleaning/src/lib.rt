@@ -2,43 +2,32 @@
 #![tactic(auto)]
 
 ghost use Rattle.std.specs.Prelude.{◌≡◌, ◌+◌, ◌≤◌, length, true, leb};
-ghost use Rattle.entries.specs.code.Owner.{Owned};
-ghost use Rattle.entries.specs.code.Reading.{IdsThere, entries_at};
 ghost use Rattle.origin.specs.Origin.{normal_form};
 ghost use Rattle.normal_forms.specs.code.Writing.{Wrote};
 ghost use Rattle.ascii.specs.Ascii.{decimal};
-ghost use Rattle.cleaning.specs.Clean.{cleaned_list, fitting, clean};
-ghost use Rattle.cleaning.specs.code.Meaning.{ListedAt, Prepares, names, opening, id_text, ids_text, IdWrote, list_head, Cleans};
+ghost use Rattle.cleaning.specs.Clean.{fitting, clean};
+ghost use Rattle.cleaning.specs.code.Meaning.{ListedAs, Prepares, names_of, list_of, opening, id_text, ids_text, IdWrote, list_head, Cleans};
 
-use entries::{AppId, AppOwner, Owner, Verdict};
-use json_text::{Decoded, Next};
+use entries::Selected;
+use json_text::Decoded;
 use refusals::Refusal;
-use trusted_list::Selection;
+use trusted_list::Version;
 
 // ---- before the list is written
 
-// A refusal; or the AppID's owner, and where the selected ids stand.
-#[derive(Clone, Copy)]
-pub enum Ready {
-    Refused(Refusal),
-    Listed(Owner, usize),
-}
-
-// Refusals 2, 3 and 9 to 13.
-pub fn prepare(appid: &[u8], major: u16, minor: u16, body: &[u8], table: &[u8]) -> Ready
-    ensures { Prepares appid.now major minor body.now table.now result }
+// Refusals 2, 3 and 9 to 13; or the list that is selected.
+pub fn prepare<'a>(
+    appid: &'a [u8],
+    wanted: Version,
+    body: &'a [u8],
+    table: &'a [u8],
+) -> Result<Selected<'a>, Refusal>
+    ensures { Prepares appid.now wanted.major wanted.minor body.now table.now result }
 {
-    match entries::read_appid(appid) {
-        AppId::Bad => Ready::Refused(Refusal::BadAppId),
-        AppId::Foreign => Ready::Refused(Refusal::ForeignAppId),
-        AppId::Url(end) => match trusted_list::select(body, major, minor) {
-            Selection::Refused(x) => Ready::Refused(x),
-            Selection::Ids(ids) => match entries::find_owner(appid, end, table) {
-                AppOwner::BadTable => Ready::Refused(Refusal::BadTable),
-                AppOwner::Is(owner) => Ready::Listed(owner, ids),
-            },
-        },
-    }
+    let Some(url) = entries::read_appid(appid)? else {
+        return Err(Refusal::ForeignAppId);
+    };
+    entries::select(url, body, wanted, table)
 }
 
 // ---- the length of the ids
@@ -56,31 +45,25 @@ fn id_length(first: bool, entry: &[u8]) -> usize
 }
 
 // The length of the ids as they are written.
-fn ids_length(appid: &[u8], owner: Owner, body: &[u8], ids: usize, table: &[u8]) -> usize
-    requires { Owned appid.now table.now owner × IdsThere body.now ids × (length body.now ≤ 65536) }
-    ensures { result ≡ length (ids_text true (names appid.now table.now (entries_at body.now ids))) }
+fn ids_length(list: &Selected) -> usize
+    ensures { result ≡ length (ids_text true (names_of list.now)) }
 {
     let mut d = Decoded {
         bytes: [0u8; 512],
         len: 0,
     };
-    let mut at = trusted_list::first_entry(body, ids);
+    let mut at = list.first();
     let mut n = 0;
-    loop {
-        let Next::At(i) = at else {
-            return n;
-        };
-        let e = entries::read_entry(&mut d.bytes, body, i, appid, owner, table);
+    // entry after entry: an iterator would have to copy what is held of each
+    while let Some(i) = at {
+        let e = list.read(&mut d.bytes, i);
         d.len = e.len;
         at = e.next;
-        let verdict = e.verdict;
-        match verdict {
-            Verdict::Kept => {
-                n += id_length(n == 0, ascii::prefix(&d.bytes, d.len));
-            }
-            Verdict::Discarded(_) => {}
+        if e.cause.is_none() {
+            n += id_length(n == 0, ascii::prefix(&d.bytes, d.len));
         }
     }
+    n
 }
 
 // ---- the bytes of the ids
@@ -105,49 +88,29 @@ fn write_id(first: bool, entry: &[u8], out: &mut [u8], at: usize) -> usize
 }
 
 // The ids, from a place of the output on.
-fn write_ids(
-    appid: &[u8],
-    owner: Owner,
-    body: &[u8],
-    ids: usize,
-    table: &[u8],
-    out: &mut [u8],
-    begin: usize,
-) -> usize
-    requires { Owned appid.now table.now owner × IdsThere body.now ids × (begin + length (ids_text true (names appid.now table.now (entries_at body.now ids))) ≤ length out.old) }
-    ensures { Wrote (ids_text true (names appid.now table.now (entries_at body.now ids))) begin out.old out.new result }
+fn write_ids(list: &Selected, out: &mut [u8], begin: usize) -> usize
+    requires { begin + length (ids_text true (names_of list.now)) ≤ length out.old }
+    ensures { Wrote (ids_text true (names_of list.now)) begin out.old out.new result }
 {
     let mut d = Decoded {
         bytes: [0u8; 512],
         len: 0,
     };
-    let mut at = trusted_list::first_entry(body, ids);
+    let mut at = list.first();
     let mut to = begin;
-    loop {
-        let Next::At(i) = at else {
-            return to;
-        };
-        let entry = entries::read_entry(&mut d.bytes, body, i, appid, owner, table);
+    // entry after entry: an iterator would have to copy what is held of each
+    while let Some(i) = at {
+        let entry = list.read(&mut d.bytes, i);
         d.len = entry.len;
         at = entry.next;
-        let verdict = entry.verdict;
-        match verdict {
-            Verdict::Kept => {
-                to = write_id(to == begin, ascii::prefix(&d.bytes, d.len), out, to);
-            }
-            Verdict::Discarded(_) => {}
+        if entry.cause.is_none() {
+            to = write_id(to == begin, ascii::prefix(&d.bytes, d.len), out, to);
         }
     }
+    to
 }
 
 // ---- the whole list
-
-// A refusal, or the length of the list that is written.
-#[derive(Clone, Copy)]
-pub enum Output {
-    Refused(Refusal),
-    Length(usize),
-}
 
 fn decimal_length(n: u16) -> usize
     ensures { (result ≡ length (decimal n)) × (result ≤ 5) }
@@ -157,25 +120,16 @@ fn decimal_length(n: u16) -> usize
 }
 
 // The list goes into so many bytes. It is never longer than the body.
-fn has_room(
-    appid: &[u8],
-    owner: Owner,
-    major: u16,
-    minor: u16,
-    body: &[u8],
-    ids: usize,
-    table: &[u8],
-    room: usize,
-) -> bool
-    requires { ListedAt appid.now major minor body.now table.now owner ids }
-    ensures { result ≡ leb (length (cleaned_list appid.now major minor body.now table.now)) room }
+fn has_room(list: &Selected, wanted: Version, room: usize) -> bool
+    requires { ListedAs wanted.major wanted.minor list.now }
+    ensures { result ≡ leb (length (list_of wanted.major wanted.minor list.now)) room }
 {
-    if body.len() <= room {
+    if list.body().len() <= room {
         return true;
     }
-    let n = ids_length(appid, owner, body, ids, table);
-    let a = decimal_length(major);
-    let b = decimal_length(minor);
+    let n = ids_length(list);
+    let a = decimal_length(wanted.major);
+    let b = decimal_length(wanted.minor);
     // 56 bytes of the head beside its two numbers, and 4 of the end
     n + a + b + 60 <= room
 }
@@ -191,53 +145,42 @@ fn write_decimal(n: u16, out: &mut [u8], at: usize) -> usize
 }
 
 // What stands before the ids.
-fn write_head(major: u16, minor: u16, out: &mut [u8]) -> usize
-    requires { length (list_head major minor) ≤ length out.old }
-    ensures { Wrote (list_head major minor) 0 out.old out.new result }
+fn write_head(wanted: Version, out: &mut [u8]) -> usize
+    requires { length (list_head wanted.major wanted.minor) ≤ length out.old }
+    ensures { Wrote (list_head wanted.major wanted.minor) 0 out.old out.new result }
 {
     let a = normal_forms::write_bytes(b"{\"trustedFacets\":[{\"version\":{\"major\":", out, 0);
-    let b = write_decimal(major, out, a);
+    let b = write_decimal(wanted.major, out, a);
     let c = normal_forms::write_bytes(b",\"minor\":", out, b);
-    let d = write_decimal(minor, out, c);
+    let d = write_decimal(wanted.minor, out, c);
     normal_forms::write_bytes(b"},\"ids\":[", out, d)
 }
 
-// Refusal 15 before any byte is written, or the list.
-fn write_list(
-    appid: &[u8],
-    owner: Owner,
-    major: u16,
-    minor: u16,
-    body: &[u8],
-    ids: usize,
-    table: &[u8],
-    out: &mut [u8],
-) -> Output
-    requires { ListedAt appid.now major minor body.now table.now owner ids }
-    ensures { Cleans out.old out.new (fitting (length out.old) (cleaned_list appid.now major minor body.now table.now)) result }
+// Refusal 15 before any byte is written; or the list, and its length.
+fn write_list(list: &Selected, wanted: Version, out: &mut [u8]) -> Result<usize, Refusal>
+    requires { ListedAs wanted.major wanted.minor list.now }
+    ensures { Cleans out.old out.new (fitting (length out.old) (list_of wanted.major wanted.minor list.now)) result }
 {
     let room = out.len();
-    if has_room(appid, owner, major, minor, body, ids, table, room) {
-        let a = write_head(major, minor, out);
-        let b = write_ids(appid, owner, body, ids, table, out, a);
+    if has_room(list, wanted, room) {
+        let a = write_head(wanted, out);
+        let b = write_ids(list, out, a);
         let n = normal_forms::write_bytes(b"]}]}", out, b);
-        return Output::Length(n);
+        return Ok(n);
     }
-    Output::Refused(Refusal::Full)
+    Err(Refusal::Full)
 }
 
+// A refusal; or the list is written, and this is its length.
 pub fn clean(
     appid: &[u8],
-    major: u16,
-    minor: u16,
+    wanted: Version,
     body: &[u8],
     table: &[u8],
     out: &mut [u8],
-) -> Output
-    ensures { Cleans out.old out.new (clean appid.now major minor body.now table.now out.old) result }
+) -> Result<usize, Refusal>
+    ensures { Cleans out.old out.new (clean appid.now wanted.major wanted.minor body.now table.now out.old) result }
 {
-    match prepare(appid, major, minor, body, table) {
-        Ready::Refused(x) => Output::Refused(x),
-        Ready::Listed(owner, ids) => write_list(appid, owner, major, minor, body, ids, table, out),
-    }
+    let list = prepare(appid, wanted, body, table)?;
+    write_list(&list, wanted, out)
 }

@@ -6,3 +6,4 @@ pub mod Padding
 pub mod Rule4
 pub mod MatchNormal
 pub mod PlaceSmall
+pub mod NumberLaws

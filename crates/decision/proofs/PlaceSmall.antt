@@ -1,9 +1,8 @@
 -- The place that rule 4 gives is below 65,536: the body is not over 65,536 bytes, and every entry takes some of them. Assumes nothing.
-use Rattle.std.specs.Prelude.{if◌then◌else◌}
+use Rattle.std.specs.Prelude.{if◌then◌else◌, Option, None, Some, unwrap_or}
 use mathlib.Core.Path.{◌≡◌, refl}
 use mathlib.Core.List.{List, [], ◌∷◌}
 use mathlib.Core.Bool.{Bool, true, false, not}
-use mathlib.Core.Option.{Option, none, some, get_or}
 use Prim.Native.Nat.{ℕ, suc, ◌≤◌, ◌<◌}
 use native.Mathlib.Omega.{arith}
 use lib.ListN.{length}
@@ -23,15 +22,15 @@ use Rattle.decision.proofs.Rule4.{NoRule4, before_list_lem}
 
 -- ---- the place is below the number of kept entries
 
-first_below : (caller : Bytes) (l : List Bytes) (n : ℕ) → first_match caller l ≡ some n → n < length l
+first_below : (caller : Bytes) (l : List Bytes) (n : ℕ) → first_match caller l ≡ Some n → n < length l
 unfolding first_match
 first_below caller [] n q = let z : ◌≡◌ {A = ℕ} 0 1 = cc in absurd (omega arith)
 first_below caller (e ∷ l) n q = go (facet_matches caller e) (first_match caller l) q (first_below caller l)
   where
-    go : (u : Bool) (o : Option ℕ) → (if u then some 0 else (o >>= λ m. some (suc m))) ≡ some n → ((m : ℕ) → o ≡ some m → m < length l) → n < suc (length l)
+    go : (u : Bool) (o : Option ℕ) → (if u then Some 0 else (o >>= λ m. Some (suc m))) ≡ Some n → ((m : ℕ) → o ≡ Some m → m < length l) → n < suc (length l)
     go true o w ih = let z : 0 ≡ n = cc in omega arith
-    go false none w ih = let z : ◌≡◌ {A = ℕ} 0 1 = cc in absurd (omega arith)
-    go false (some j) w ih = let z : suc j ≡ n = cc in let y = ih j refl in omega arith
+    go false None w ih = let z : ◌≡◌ {A = ℕ} 0 1 = cc in absurd (omega arith)
+    go false (Some j) w ih = let z : suc j ≡ n = cc in let y = ih j refl in omega arith
 
 -- ---- these are no more than the entries
 
@@ -63,17 +62,17 @@ entries_few : (major minor : ℕ) (body : Bytes) → length (entries major minor
 unfolding entries
 entries_few major minor body = go (selected major minor body) refl
   where
-    go : (o : Option (List Bytes)) → selected major minor body ≡ o → length (get_or o []) ≤ length body
-    go none e = omega arith
-    go (some ids) e = omega (arith, list_many major minor ids, selected_fits major minor body ids e)
+    go : (o : Option (List Bytes)) → selected major minor body ≡ o → length (unwrap_or o []) ≤ length body
+    go None e = omega arith
+    go (Some ids) e = omega (arith, list_many major minor ids, selected_fits major minor body ids e)
 
 -- ---- these are at most 65,536
 
-long_refused : (major minor : ℕ) (body : Bytes) → ltb 65536 (length body) ≡ true → list_refusal major minor body ≡ some LongList
+long_refused : (major minor : ℕ) (body : Bytes) → ltb 65536 (length body) ≡ true → list_refusal major minor body ≡ Some LongList
 unfolding list_refusal
 long_refused major minor body e = rw e
 
-accepted_short : (major minor : ℕ) (body : Bytes) → list_refusal major minor body ≡ none → length body ≤ 65536
+accepted_short : (major minor : ℕ) (body : Bytes) → list_refusal major minor body ≡ None → length body ≤ 65536
 accepted_short major minor body h = go (ltb 65536 (length body)) refl
   where
     go : (t : Bool) → ltb 65536 (length body) ≡ t → length body ≤ 65536
@@ -92,10 +91,10 @@ by_list_small caller appid major minor body table (list_due r) n s e =
         → unless ((NotFetched when a) or_else (WrongType when b) or_else x or_else (BadTable when c)) (by_place o) ≡ rule4 n → n < 65536
     go true b x l c o f p = let z : ◌≡◌ {A = ℕ} 0 1 = cc in absurd (omega arith)
     go false true x l c o f p = let z : ◌≡◌ {A = ℕ} 0 1 = cc in absurd (omega arith)
-    go false false (some x) l c o f p = let z : ◌≡◌ {A = ℕ} 0 1 = cc in absurd (omega arith)
-    go false false none l true o f p = let z : ◌≡◌ {A = ℕ} 0 1 = cc in absurd (omega arith)
-    go false false none l false none f p = let z : ◌≡◌ {A = ℕ} 0 1 = cc in absurd (omega arith)
-    go false false none l false (some k) f p =
+    go false false (Some x) l c o f p = let z : ◌≡◌ {A = ℕ} 0 1 = cc in absurd (omega arith)
+    go false false None l true o f p = let z : ◌≡◌ {A = ℕ} 0 1 = cc in absurd (omega arith)
+    go false false None l false None f p = let z : ◌≡◌ {A = ℕ} 0 1 = cc in absurd (omega arith)
+    go false false None l false (Some k) f p =
         let z : k ≡ n = cc in
         omega (
           arith,

@@ -1,6 +1,5 @@
 -- The decision, in document 01's order ("Fetch record and decision").
-use Rattle.std.specs.Prelude.{List, [], ◌∷◌, ◌&&◌, not, ℕ, suc, eqb, if◌then◌else◌}
-use Rattle.std.proofs.Math.Option.{Option, none, some}
+use Rattle.std.specs.Prelude.{List, [], ◌∷◌, ◌&&◌, not, ℕ, suc, eqb, if◌then◌else◌, Option, None, Some, Ok, Err}
 use Rattle.ascii.specs.Ascii.{Bytes, ◌>>=◌, ◌when◌, ◌or_else◌, is_none, is_empty, same}
 use Rattle.suffix.specs.Suffix.{read_table}
 use Rattle.origin.specs.Origin.{begins_https, https_url, web_origin, is_facet}
@@ -8,8 +7,8 @@ use Rattle.matching.specs.Matching.{same_host, facet_matches}
 use Rattle.refusals.specs.declared.Refusal.{Refusal}
 use Rattle.refusals.specs.declared.Refusal.TheVariants.{Stranger, BadAppId, ForeignAppId, NotFetched, WrongType, BadTable, NotListed}
 use Rattle.trusted_list.specs.TrustedList.{list_refusal, entries}
-use Rattle.fetch_record.specs.Record.{Answer as Response}
-use Rattle.fetch_record.specs.Fetching.{Fetching, refused as hop_refused, fetch as must_fetch, answered, fetching}
+use Rattle.fetch_record.specs.declared.item.Answer.{Answer as Response}
+use Rattle.fetch_record.specs.Fetching.{Fetching, fetching}
 use Rattle.entries.specs.AppId.{is_bad_app_id}
 use Rattle.entries.specs.Causes.{kept}
 use Rattle.decision.specs.Answer.{Answer, rule1, rule2, rule3, rule4, fetch, refused}
@@ -23,9 +22,9 @@ pub data Stage : Type 0 where
 
 -- refusal 4; then hop by hop 5 before 6; fetch, where the record has no answer
 unfoldable pub by_fetch : Fetching → Stage
-by_fetch (hop_refused r) = settled (refused r)
-by_fetch must_fetch = settled fetch
-by_fetch (answered a) = list_due a
+by_fetch (Err r) = settled (refused r)
+by_fetch (Ok None) = settled fetch
+by_fetch (Ok (Some a)) = list_due a
 
 unfoldable pub before_list : Bytes → Bytes → Bytes → Bytes → Stage
 before_list caller appid items lent =
@@ -41,8 +40,8 @@ before_list caller appid items lent =
 
 -- the place of the first entry that matches the caller, counted from 0
 unfoldable pub first_match : Bytes → List Bytes → Option ℕ
-first_match caller [] = none
-first_match caller (e ∷ es) = if facet_matches caller e then some 0 else (first_match caller es >>= λ n. some (suc n))
+first_match caller [] = None
+first_match caller (e ∷ es) = if facet_matches caller e then Some 0 else (first_match caller es >>= λ n. Some (suc n))
 
 -- refusals 7 to 13
 unfoldable pub late_refusal : Response → ℕ → ℕ → Bytes → Bytes → Option Refusal
@@ -54,12 +53,12 @@ late_refusal response major minor body table =
 
 -- allowed by rule 4, with the place of the first kept entry matching the caller; else refusal 14
 abbrev pub by_place : Option ℕ → Answer
-by_place none = refused NotListed
-by_place (some n) = rule4 n
+by_place None = refused NotListed
+by_place (Some n) = rule4 n
 
 abbrev pub unless : Option Refusal → Answer → Answer
-unless none a = a
-unless (some r) a = refused r
+unless None a = a
+unless (Some r) a = refused r
 
 unfoldable pub by_list : Bytes → Bytes → ℕ → ℕ → Bytes → Bytes → Stage → Answer
 by_list caller appid major minor body table (settled a) = a

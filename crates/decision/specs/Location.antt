@@ -1,14 +1,14 @@
 -- The fetch location (document 01, after the decision).
-use Rattle.std.specs.Prelude.{[]}
-use Rattle.std.proofs.Math.Option.{Option, none, some, get_or}
+use Rattle.std.specs.Prelude.{[], Option, None, Some, unwrap_or}
 use Rattle.ascii.specs.Ascii.{Bytes, ◌>>=◌}
-use Rattle.fetch_record.specs.Record.{Redirect, last_location, read_record, last_hop}
+use Rattle.fetch_record.specs.Record.{last_location, read_record, last_hop}
+use Rattle.fetch_record.specs.declared.item.Redirect.{Redirect}
 use Rattle.decision.specs.Answer.{rule1, rule2, rule3, rule4, fetch, refused}
 use Rattle.decision.specs.Decide.{Stage, settled, list_due, before_list}
 
 -- the last redirect's part of the text, or the AppID where there is none
 unfoldable pub fetch_from : Bytes → Bytes → Bytes → Bytes
-fetch_from appid items lent = get_or (read_record items lent >>= λ f. last_location lent f.redirects) appid
+fetch_from appid items lent = unwrap_or (read_record items lent >>= λ f. last_location lent f.redirects) appid
 
 -- an empty part unless the decision is fetch
 unfoldable pub if_fetch : Stage → Bytes → Bytes
@@ -33,8 +33,8 @@ pub data Source : Type 0 where
   redirect : Redirect → Source
 
 unfoldable pub source_from : Option Redirect → Source
-source_from none = the_app_id
-source_from (some h) = redirect h
+source_from None = the_app_id
+source_from (Some h) = redirect h
 
 unfoldable pub source_if_fetch : Stage → Source → Source
 source_if_fetch (list_due a) s = nowhere

@@ -1,10 +1,9 @@
 -- A host that ends in the private label of another: what the table found for that one, joined with what the span of the deeper
 -- rules finds for this one, gives the size of its public suffix. Assumes nothing.
-use Rattle.std.specs.Prelude.{if◌then◌else◌}
+use Rattle.std.specs.Prelude.{if◌then◌else◌, Option, None, Some}
 use mathlib.Core.Path.{◌≡◌, refl, sym, ap, ◌∙◌}
 use mathlib.Core.Bool.{Bool, true, false}
 use mathlib.Core.List.{List, [], ◌∷◌, ◌++◌}
-use mathlib.Core.Option.{Option, none, some}
 use Prim.Native.Nat.{ℕ, ◌+◌, ◌-◌, ◌≤◌, ◌<◌, max}
 use native.Mathlib.Omega.{arith}
 use lib.ListN.{length, take, drop, length-take, length-drop}
@@ -15,21 +14,19 @@ use Rattle.ascii.specs.Ascii.{Bytes, is_none, filter_by, last_of, split_at}
 use Rattle.hosts.specs.Host.{labels}
 use Rattle.suffix.specs.Suffix.{Rule, matches, read_lines, read_table}
 use Rattle.hosts.specs.code.Place.{ends_at_label}
-use Rattle.suffix.specs.code.Pass.{max_labels, sizes, best_of, join_best, size_of}
+use Rattle.suffix.specs.code.Pass.{sized, max_labels, sizes, best_of, joined, join_best, size_of}
 use Rattle.suffix.specs.code.Deeper.{goes_deeper, deeper_in}
 use Rattle.label_lookup.specs.code.Span.{Spans, Held}
-use Rattle.suffix.specs.declared.Best.{Best}
-use Rattle.suffix.specs.declared.Best.TheVariants.{Bad, Sizes}
+use Rattle.suffix.specs.declared.Sizes.{Sizes}
 use Rattle.label_lookup.specs.declared.Deeper.{Deeper}
 use Rattle.hosts.proofs.Ends.{Alike, true_false}
 use Rattle.suffix.proofs.Answers.{Found, found, size_exception}
-use Rattle.suffix.proofs.Passes.{join_bad}
+use Rattle.suffix.proofs.Passes.{same_sizes, join_bad}
 use Rattle.suffix.proofs.Climbs.{found_good, table_short, table_read}
 use Rattle.suffix.proofs.Cuts.{best_both}
 use Rattle.suffix.proofs.Speed.{rule_same, rules_same, Within, within, home, label_size, by_size}
 use Rattle.suffix.proofs.Owned.{has_no_end}
 use Rattle.deeper_rules.specs.code.Findings.{FindsTable, Tells}
-use Rattle.deeper_rules.specs.declared.Finding.{Finding}
 
 -- ---- numbers
 
@@ -87,8 +84,8 @@ module _ (ls g h : List Bytes) (lg : length ls ≤ length g) (eg : Alike (last_o
 
   same_best : (o : Option (List Rule)) → deeper_in ls o ≡ false → best_of h o ≡ best_of g o
   unfolding deeper_in best_of
-  same_best none d = true_false d
-  same_best (some rs) d = ap sizes (rules_same ls h lh eh rs d ∙ sym (rules_same ls g lg eg rs d))
+  same_best None d = true_false d
+  same_best (Some rs) d = ap (λ (ms : List Rule). Some (sizes ms)) (rules_same ls h lh eh rs d ∙ sym (rules_same ls g lg eg rs d))
 
   -- and so does one of no more labels than these
   fewer : (rs : List Rule) → max_labels (filter_by (matches g) rs) ≤ length ls → max_labels (filter_by (matches g) rs) ≤ max_labels (filter_by (matches h) rs)
@@ -111,14 +108,16 @@ module _ (ls g h : List Bytes) (lg : length ls ≤ length g) (eg : Alike (last_o
     exceptions : eG ≤ length ls → eG ≤ eH
     rules : mG ≤ length ls → mG ≤ mH
 
-  fewer_found : (o : Option (List Rule)) (eG mG eH mH : ℕ) → best_of g o ≡ Sizes eG mG → best_of h o ≡ Sizes eH mH → Fewer eG mG eH mH
+  fewer_found : (o : Option (List Rule)) (eG mG eH mH : ℕ) → best_of g o ≡ sized eG mG → best_of h o ≡ sized eH mH → Fewer eG mG eH mH
   unfolding best_of sizes
-  fewer_found none eG mG eH mH a b = let z : ◌≡◌ {A = ℕ} 0 1 = cc in absurd (omega arith)
-  fewer_found (some rs) eG mG eH mH a b =
-      let x : max_labels (filter_by (λ r. r.exception) (filter_by (matches g) rs)) ≡ eG = cc in
-      let y : max_labels (filter_by (matches g) rs) ≡ mG = cc in
-      let z : max_labels (filter_by (λ r. r.exception) (filter_by (matches h) rs)) ≡ eH = cc in
-      let w : max_labels (filter_by (matches h) rs) ≡ mH = cc in
+  fewer_found None eG mG eH mH a b = let z : ◌≡◌ {A = ℕ} 0 1 = cc in absurd (omega arith)
+  fewer_found (Some rs) eG mG eH mH a b =
+      let own = same_sizes a in
+      let other = same_sizes b in
+      let x : max_labels (filter_by (λ r. r.exception) (filter_by (matches g) rs)) ≡ eG = own.0 in
+      let y : max_labels (filter_by (matches g) rs) ≡ mG = own.1 in
+      let z : max_labels (filter_by (λ r. r.exception) (filter_by (matches h) rs)) ≡ eH = other.0 in
+      let w : max_labels (filter_by (matches h) rs) ≡ mH = other.1 in
       let p : max_labels (filter_by (matches g) (filter_by (λ r. r.exception) rs)) ≡ eG = ap max_labels (filter_swap (matches g) (λ r. r.exception) rs) ∙ x in
       let q : max_labels (filter_by (matches h) (filter_by (λ r. r.exception) rs)) ≡ eH = ap max_labels (filter_swap (matches h) (λ r. r.exception) rs) ∙ z in
       record {
@@ -157,29 +156,29 @@ module _ (table home₀ label : Bytes) (d : Deeper) (H : Held table home₀ labe
   span_good : is_none (read_lines span) ≡ false
   span_good = go (read_lines span) refl
     where
-      joined : (a c : Best) → join_best a (join_best Bad c) ≡ Bad
+      joined : (a c : Option Sizes) → join_best a (join_best None c) ≡ None
       joined a c = ap (join_best a) first ∙ join_bad a
         where
-          first : join_best Bad c ≡ Bad
+          first : join_best None c ≡ None
           first = unfold join_best in refl
 
-      bad : (hl : List Bytes) → best_of hl none ≡ Bad
+      bad : (hl : List Bytes) → best_of hl None ≡ None
       bad hl = unfold best_of in refl
 
       go : (o : Option (List Rule)) → read_lines span ≡ o → is_none o ≡ false
-      go none n =
-          let w : Bad ≡ Sizes d.exception d.most =
+      go None n =
+          let w : None ≡ Some d.sizes =
           sym (joined (best_of (labels home₀) (read_lines S.before)) (best_of (labels home₀) (read_lines S.behind)))
           ∙ sym (rw (n, bad (labels home₀)) at (cut (labels home₀))) ∙ H.found in
           let z : ◌≡◌ {A = ℕ} 0 1 = cc in
           absurd (omega arith)
-      go (some rs) n = refl
+      go (Some rs) n = refl
 
-  home_found : Found table home₀ (size_of d.exception d.most)
-  home_found = found table home₀ d.exception d.most (sym H.found)
+  home_found : Found table home₀ (size_of d.sizes.exception d.sizes.most)
+  home_found = found table home₀ d.sizes.exception d.sizes.most (sym H.found)
 
   -- another host that ends in the label, for which the span finds this
-  module _ (h : Bytes) (t : ends_at_label label h ≡ true) (x y : ℕ) (f : best_of (labels h) (read_lines span) ≡ Sizes x y) where
+  module _ (h : Bytes) (t : ends_at_label label h ≡ true) (x y : ℕ) (f : best_of (labels h) (read_lines span) ≡ sized x y) where
     own : Within table home₀ label H.label_is home₀
     own = home table home₀ label H.label_is
 
@@ -189,23 +188,24 @@ module _ (table home₀ label : Bytes) (d : Deeper) (H : Held table home₀ labe
     outside : (o : Option (List Rule)) → deeper_in (labels label) o ≡ false → best_of (labels h) o ≡ best_of (labels home₀) o
     outside = same_best (labels label) (labels home₀) (labels h) own.fits own.alike here.fits here.alike
 
-    joined_size : Found table h (size_of (max d.exception x) (max d.most y))
+    joined_size : Found table h (size_of (max d.sizes.exception x) (max d.sizes.most y))
     joined_size = go (best_of (labels home₀) (read_lines S.before)) refl (best_of (labels home₀) (read_lines span)) refl (best_of (labels home₀) (read_lines S.behind)) refl (sym (cut (labels home₀)) ∙ H.found)
       where
-        whole : (a c : Best) → best_of (labels home₀) (read_lines S.before) ≡ a → best_of (labels home₀) (read_lines S.behind) ≡ c → best_of (labels h) (read_table table) ≡ join_best a (join_best (Sizes x y) c)
+        whole : (a c : Option Sizes) → best_of (labels home₀) (read_lines S.before) ≡ a → best_of (labels home₀) (read_lines S.behind) ≡ c → best_of (labels h) (read_table table) ≡ join_best a (join_best (sized x y) c)
         whole a c p r = cut (labels h) ∙ rw (outside (read_lines S.before) S.before_not ∙ p, f, outside (read_lines S.behind) S.behind_not ∙ r)
 
-        go : (a : Best) → best_of (labels home₀) (read_lines S.before) ≡ a → (b : Best) → best_of (labels home₀) (read_lines span) ≡ b → (c : Best) → best_of (labels home₀) (read_lines S.behind) ≡ c
-            → join_best a (join_best b c) ≡ Sizes d.exception d.most → Found table h (size_of (max d.exception x) (max d.most y))
-        go Bad p b q c r j = unfold join_best in (let z : ◌≡◌ {A = ℕ} 0 1 = cc in absurd (omega arith))
-        go (Sizes ea ma) p Bad q c r j = unfold join_best in (let z : ◌≡◌ {A = ℕ} 0 1 = cc in absurd (omega arith))
-        go (Sizes ea ma) p (Sizes eg mg) q Bad r j = unfold join_best in (let z : ◌≡◌ {A = ℕ} 0 1 = cc in absurd (omega arith))
-        go (Sizes ea ma) p (Sizes eg mg) q (Sizes ec mc) r j = unfold join_best in (
-            let e : d.exception ≡ max ea (max eg ec) = cc in
-            let m : d.most ≡ max ma (max mg mc) = cc in
-            let F = fewer_found (labels label) (labels home₀) (labels h) own.fits own.alike here.fits here.alike (read_lines span) eg mg x y q f in
-            rw (← same_size ea eg ec x ma mg mc y d.exception d.most e m (length (labels label)) (label_size table home₀ label H.label_is home_found) F.exceptions F.rules)
-            (found table h (max ea (max x ec)) (max ma (max y mc)) (sym (whole (Sizes ea ma) (Sizes ec mc) p r)))
+        go : (a : Option Sizes) → best_of (labels home₀) (read_lines S.before) ≡ a → (b : Option Sizes) → best_of (labels home₀) (read_lines span) ≡ b → (c : Option Sizes) → best_of (labels home₀) (read_lines S.behind) ≡ c
+            → join_best a (join_best b c) ≡ Some d.sizes → Found table h (size_of (max d.sizes.exception x) (max d.sizes.most y))
+        go None p b q c r j = unfold join_best in (let z : ◌≡◌ {A = ℕ} 0 1 = cc in absurd (omega arith))
+        go (Some sa) p None q c r j = unfold join_best in (let z : ◌≡◌ {A = ℕ} 0 1 = cc in absurd (omega arith))
+        go (Some sa) p (Some sg) q None r j = unfold join_best in (let z : ◌≡◌ {A = ℕ} 0 1 = cc in absurd (omega arith))
+        go (Some sa) p (Some sg) q (Some sc) r j = unfold join_best in (
+            let both = same_sizes (sym j) in
+            let e : d.sizes.exception ≡ max sa.exception (max sg.exception sc.exception) = both.0 in
+            let m : d.sizes.most ≡ max sa.most (max sg.most sc.most) = both.1 in
+            let F = fewer_found (labels label) (labels home₀) (labels h) own.fits own.alike here.fits here.alike (read_lines span) sg.exception sg.most x y q f in
+            rw (← same_size sa.exception sg.exception sc.exception x sa.most sg.most sc.most y d.sizes.exception d.sizes.most e m (length (labels label)) (label_size table home₀ label H.label_is home_found) F.exceptions F.rules)
+            (found table h (max sa.exception (max x sc.exception)) (max sa.most (max y sc.most)) (sym (whole (Some sa) (Some sc) p r)))
             )
 
 -- ---- the ways out of the code
@@ -215,12 +215,12 @@ module _ (table label : Bytes) (d : Deeper) (h : Bytes) {b : Bool} (e : b ≡ en
   tells_not c = record { is = λ home₀ H a. has_no_end table h label e c }
 
 -- its premises from the last to the first, so that each fixes the next one's unknowns
-pub tells_by_size : {table label h s : Bytes} {d : Deeper} {f : Finding} {b : Bool} {x y n k : ℕ} → n ≡ size_of x y → k ≡ size_of d.exception d.most → x ≡ max d.exception f.exception
-    → y ≡ max d.most f.most → FindsTable h s f → s ≡ take (d.to - d.from) (drop d.from table) → b ≡ true → b ≡ ends_at_label label h → Tells table label d h (eqb n k)
-tells_by_size {table} {label} {h} {s} {d} {f} i w u v F p c e =
-    record { is = λ home₀ H a. rw (w, i, u, v) (sym (by_size table home₀ label H.label_is h a (size home₀ H) (home_found table home₀ label d H) (sym e ∙ c))) }
+pub tells_by_size : {table label h s : Bytes} {d : Deeper} {f j : Sizes} {b : Bool} {n k : ℕ} → n ≡ size_of j.exception j.most → k ≡ size_of d.sizes.exception d.sizes.most → j ≡ joined d.sizes f
+    → FindsTable h s f → s ≡ take (d.to - d.from) (drop d.from table) → b ≡ true → b ≡ ends_at_label label h → Tells table label d h (eqb n k)
+tells_by_size {table} {label} {h} {s} {d} {f} i w u F p c e =
+    record { is = λ home₀ H a. rw (w, i, u) (sym (by_size table home₀ label H.label_is h a (size home₀ H) (home_found table home₀ label d H) (sym e ∙ c))) }
   where
-    size : (home₀ : Bytes) → Held table home₀ label d → Found table h (size_of (max d.exception f.exception) (max d.most f.most))
+    size : (home₀ : Bytes) → Held table home₀ label d → Found table h (size_of (max d.sizes.exception f.exception) (max d.sizes.most f.most))
     size home₀ H =
         let r = span_read table home₀ label d H in
         joined_size table home₀ label d H h (sym e ∙ c) f.exception f.most (sym (rw (p, r) at F.is (span_good table home₀ label d H)))
@@ -228,4 +228,4 @@ tells_by_size {table} {label} {h} {s} {d} {f} i w u v F p c e =
 pub ruleset joined_laws = (tells_not, tells_by_size, rules)
 
 -- the look alone: a search that fails then tries every way
-pub ruleset sized = (tells_by_size)
+pub ruleset by_sizes = (tells_by_size)

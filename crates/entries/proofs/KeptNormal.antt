@@ -2,8 +2,7 @@
 use mathlib.Core.Path.{◌≡◌, refl, ap, ◌∙◌}
 use mathlib.Core.List.{List, map}
 use mathlib.Core.Bool.{true}
-use mathlib.Core.Option
-use mathlib.Core.Option.{Option, none, some}
+use Rattle.std.specs.Prelude.{Option, None, Some, option_map}
 use Prim.Native.Nat.{◌<◌}
 use native.Mathlib.Omega.{arith}
 use lib.ListN.{length}
@@ -21,20 +20,20 @@ use Rattle.entries.proofs.KeptTests.{is_kept, kept_passes, passes_kept, kept_eac
 
 -- ---- cause 4 does not see the normal form
 
-agree_lower : (x m : Option Bytes) → labels_agree (Option.map lower x) m ≡ labels_agree x m
+agree_lower : (x m : Option Bytes) → labels_agree (option_map lower x) m ≡ labels_agree x m
 unfolding labels_agree same_no_case
-agree_lower none none = refl
-agree_lower none (some m) = refl
-agree_lower (some l) none = refl
-agree_lower (some l) (some m) = rw lower_twice
+agree_lower None None = refl
+agree_lower None (Some m) = refl
+agree_lower (Some l) None = refl
+agree_lower (Some l) (Some m) = rw lower_twice
 
 label_normal : (appid table e : Bytes) → is_other_label appid table (web_origin (normal_form e)) ≡ is_other_label appid table (web_origin e)
 unfolding is_other_label
 label_normal appid table e = go (web_origin e) refl
   where
     go : (o : Option Authority) → web_origin e ≡ o → is_other_label appid table (web_origin (normal_form e)) ≡ is_other_label appid table (web_origin e)
-    go none p = ap (λ (s : Bytes). is_other_label appid table (web_origin s)) (own_normal e p)
-    go (some a) p = rw (origin_normal e a p, p, host_normal a, private_label_lem table a.host, agree_lower)
+    go None p = ap (λ (s : Bytes). is_other_label appid table (web_origin s)) (own_normal e p)
+    go (Some a) p = rw (origin_normal e a p, p, host_normal a, private_label_lem table a.host, agree_lower)
 
 -- ---- the normal form of a kept entry
 
@@ -42,8 +41,8 @@ pub kept_normal : (appid table e : Bytes) → is_kept appid table e ≡ true →
 kept_normal appid table e h = go (web_origin e) refl
   where
     go : (o : Option Authority) → web_origin e ≡ o → is_kept appid table (normal_form e) ≡ true
-    go none p = rw (own_normal e p) h
-    go (some a) p =
+    go None p = rw (own_normal e p) h
+    go (Some a) p =
         let P = kept_passes appid table e h in
         let long : length e < 513 = leb-false 513 (length e) P.short in
         passes_kept appid table (normal_form e) (record {

@@ -1,9 +1,8 @@
 -- What is known of a kept entry: none of the four causes holds. Assumes nothing.
-use Rattle.std.specs.Prelude.{if◌then◌else◌}
+use Rattle.std.specs.Prelude.{if◌then◌else◌, Option, Some}
 use mathlib.Core.Path.{◌≡◌, refl}
 use mathlib.Core.List.{List}
 use mathlib.Core.Bool.{Bool, true, false, ◌||◌, not}
-use mathlib.Core.Option.{Option, some}
 use Prim.Native.Nat.{ℕ}
 use native.Mathlib.Omega.{arith}
 use lib.ListN.{length}
@@ -26,7 +25,7 @@ pub record Passes (appid table e : Bytes) : Type 0 where
   pub label : is_other_label appid table (web_origin e) ≡ false
 
 -- a chain of causes that ends in none: the first test fails, and the others too
-peel : (t : Bool) (a : Cause) (r : Option Cause) → is_none (if t then some a else r) ≡ true → (t ≡ false) × (is_none r ≡ true)
+peel : (t : Bool) (a : Cause) (r : Option Cause) → is_none (if t then Some a else r) ≡ true → (t ≡ false) × (is_none r ≡ true)
 peel true a r e = let z : ◌≡◌ {A = ℕ} 0 1 = cc in absurd (omega arith)
 peel false a r e = (refl, e)
 

@@ -1,10 +1,11 @@
 -- The sets of laws that answer needs.
 use borrow.Author.Rules.{rules}
-use Rattle.entries.proofs.OwnerLaws.{appid_long, appid_other, appid_no_url, appid_url, owner_bad, owner_fits, owner_label, differs_none, differs_not, differs_so, differs_within, differs_outside}
+use Rattle.entries.proofs.OwnerLaws.{appid_long, appid_other, appid_no_url, host_ends, appid_url, owner_bad, owner_fits, owner_label, differs_none, differs_deeper, differs_end}
 use Rattle.entries.proofs.CauseLaws.{judge_long, judge_no_origin, judge_start, judge_end, judge_other, judge_kept, judge_native, judge_no_native, judge_scheme}
-use Rattle.entries.proofs.ReadLaws.{decodes_escaped, plain_low, plain_high, plain_from, plain_behind, decodes_plain, read_wrong, read_over, read_judged}
+use Rattle.entries.proofs.Tellings.{select_unselected, select_there, select_short, select_no_table, select_owned, select_all}
+use Rattle.entries.proofs.ReadLaws.{decodes_escaped, plain_low, plain_high, plain_from, plain_behind, decodes_plain, read_wrong, read_over, read_judged, read_owned}
 
-pub ruleset owners = (appid_long, appid_other, appid_no_url, appid_url, owner_bad, owner_fits, owner_label, differs_none, differs_not, differs_so, differs_within, differs_outside, rules)
+pub ruleset owners = (appid_long, appid_other, appid_no_url, host_ends, appid_url, owner_bad, owner_fits, owner_label, differs_none, differs_deeper, differs_end, rules)
 
 pub ruleset laws = (judge_long, judge_no_origin, judge_start, judge_end, judge_other, judge_kept, judge_native, judge_no_native, judge_scheme, rules)
 
@@ -15,4 +16,6 @@ pub ruleset read_long = (read_over, rules)
 
 pub ruleset read_last = (read_judged, rules)
 
-pub ruleset reading = (decodes_escaped, plain_low, plain_high, plain_from, plain_behind, decodes_plain, rules)
+pub ruleset reading = (decodes_escaped, plain_low, plain_high, plain_from, plain_behind, decodes_plain, read_owned, rules)
+
+pub ruleset selecting = (select_unselected, select_there, select_short, select_no_table, select_owned, select_all, rules)

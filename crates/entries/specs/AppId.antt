@@ -1,6 +1,5 @@
 -- The AppID: refusal 2, and its private label (document 01, "The list" and the table of refusals).
-use Rattle.std.specs.Prelude.{Bool, ◌&&◌, ◌||◌, length, ltb}
-use Rattle.std.proofs.Math.Option.{Option}
+use Rattle.std.specs.Prelude.{Bool, ◌&&◌, ◌||◌, length, ltb, Option}
 use Rattle.ascii.specs.Ascii.{Bytes, ◌>>=◌, is_none}
 use Rattle.suffix.specs.Suffix.{private_label}
 use Rattle.origin.specs.Origin.{begins_https, https_url}

@@ -1,6 +1,5 @@
 -- Why an entry is discarded, and which entries are kept (document 01, "The list").
-use Rattle.std.specs.Prelude.{List, Bool, false, ◌||◌, not, length, ltb, if◌then◌else◌}
-use Rattle.std.proofs.Math.Option.{Option, none, some}
+use Rattle.std.specs.Prelude.{List, Bool, false, ◌||◌, not, length, ltb, if◌then◌else◌, Option, None, Some}
 use Rattle.ascii.specs.Ascii.{Bytes, is_none, both_pass, filter_by, same_no_case}
 use Rattle.suffix.specs.Suffix.{private_label}
 use Rattle.origin.specs.Origin.{Authority, begins_https, begins_native, web_origin, is_facet}
@@ -14,17 +13,17 @@ labels_agree = both_pass same_no_case
 
 -- a web origin, where its host or the AppID's has no private label or the two labels are unequal
 unfoldable pub is_other_label : Bytes → Bytes → Option Authority → Bool
-is_other_label appid table none = false
-is_other_label appid table (some o) = not (labels_agree (private_label table o.host) (app_label table appid))
+is_other_label appid table None = false
+is_other_label appid table (Some o) = not (labels_agree (private_label table o.host) (app_label table appid))
 
 -- causes 1 to 4: the first that holds; none: the entry is kept
 unfoldable pub cause : Bytes → Bytes → Bytes → Option Cause
 cause appid table entry =
-    if ltb 512 (length entry) then some TooLong else
-    if not (begins_https entry || begins_native entry) then some OtherScheme else
-    if not (is_facet entry) then some NotFacet else
-    if is_other_label appid table (web_origin entry) then some OtherLabel else
-    none
+    if ltb 512 (length entry) then Some TooLong else
+    if not (begins_https entry || begins_native entry) then Some OtherScheme else
+    if not (is_facet entry) then Some NotFacet else
+    if is_other_label appid table (web_origin entry) then Some OtherLabel else
+    None
 
 -- all others are kept, in order, repeats included
 unfoldable pub kept : Bytes → Bytes → List Bytes → List Bytes

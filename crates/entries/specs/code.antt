@@ -1,2 +1,4 @@
 pub mod Owner
 pub mod Reading
+pub mod HostEnds
+pub mod Selecting

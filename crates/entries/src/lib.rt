@@ -1,68 +1,59 @@
 // An entry of the selected list: read at its place, held by value, and judged; and the AppID, read once.
 #![tactic(auto)]
 
+mod selected;
+mod url;
+
 ghost use Rattle.entries.specs.code.Owner.{AppIdIs, OwnedBy, Differs, Judges};
 ghost use Rattle.entries.specs.code.Reading.{Decodes, Reads};
+ghost use Rattle.entries.specs.code.Selecting.{Selects};
 
-use json_text::{Next, Progress};
 use label_lookup::Deeper;
-use origin::Reading;
+use refusals::Refusal;
+pub use selected::Selected;
+use trusted_list::Version;
+pub use url::Url;
 
 // ---- the AppID
 
-// Refusal 2; or it does not begin `https://`; or it is an HTTPS URL whose host ends at a place.
-#[derive(Clone, Copy)]
-pub enum AppId {
-    Bad,
-    Foreign,
-    Url(usize),
-}
-
-// Where the AppID's private label begins and ends in it, empty where it has none; and what is held of the rules that go deeper than
-// it.
-#[derive(Clone, Copy)]
-pub struct Owner {
-    pub start: usize,
-    pub end: usize,
-    pub deeper: Deeper,
-}
-
-#[derive(Clone, Copy)]
-pub enum AppOwner {
-    BadTable,
-    Is(Owner),
-}
-
-pub fn read_appid(appid: &[u8]) -> AppId
+// Refusal 2; or the HTTPS URL, none where the AppID does not begin `https://`.
+pub fn read_appid<'a>(appid: &'a [u8]) -> Result<Option<Url<'a>>, Refusal>
     ensures { AppIdIs appid.now result }
 {
     // document 01's bound for an AppID
     if 2048 < appid.len() {
-        return AppId::Bad;
+        return Err(Refusal::BadAppId);
     }
     if origin::begins_https(appid) {
-        let Reading::Found(p) = origin::https_url(appid) else {
-            return AppId::Bad;
+        let Some(p) = origin::https_url(appid) else {
+            return Err(Refusal::BadAppId);
         };
         let end = p.end;
-        return AppId::Url(end);
+        return Ok(Some(Url { appid, end }));
     }
-    AppId::Foreign
+    Ok(None)
+}
+
+// Where the AppID's private label begins and ends in it, empty where it has none; and what is held of the rules that go deeper than
+// it, where some do.
+#[derive(Clone, Copy)]
+pub struct Owner {
+    pub start: usize,
+    pub end: usize,
+    pub deeper: Option<Deeper>,
 }
 
 // One pass over the table for the AppID's own host, which stands behind `https://` up to its end; two where rules go deeper than
-// its label.
-pub fn find_owner(appid: &[u8], end: usize, table: &[u8]) -> AppOwner
-    ensures { OwnedBy appid.now end table.now result }
+// its label. None for a bad table.
+pub fn find_owner(url: Url, table: &[u8]) -> Option<Owner>
+    ensures { OwnedBy url.entry.appid.now table.now result }
 {
-    let host = ascii::part(appid, 8, end);
-    match label_lookup::find_owner(host, table) {
-        label_lookup::Owner::BadTable => AppOwner::BadTable,
-        label_lookup::Owner::Label(at, deeper) => {
-            let start = 8 + at;
-            AppOwner::Is(Owner { start, end, deeper })
-        }
-    }
+    let end = url.end;
+    let host = ascii::part(url.appid, 8, end);
+    let found = label_lookup::find_owner(host, table)?;
+    let start = 8 + found.start;
+    let deeper = found.deeper;
+    Some(Owner { start, end, deeper })
 }
 
 // ---- causes
@@ -76,81 +67,70 @@ pub enum Cause {
     OtherLabel,
 }
 
-// Kept, or the first cause that holds.
-#[derive(Clone, Copy)]
-pub enum Verdict {
-    Kept,
-    Discarded(Cause),
-}
-
 // The host has no private label, or another one than the AppID. Only where rules go deeper than the AppID's label are their lines
 // looked up.
-fn is_other_label(host: &[u8], label: &[u8], deeper: Deeper, table: &[u8]) -> bool
-    ensures { Differs table.now label.now deeper host.now result }
+fn is_other_label(host: &[u8], label: &[u8], deeper: &Option<Deeper>, table: &[u8]) -> bool
+    ensures { Differs table.now label.now deeper.now host.now result }
 {
     if label.len() == 0 {
         return true;
     }
-    if deeper.present {
-        if deeper_rules::has_label(host, label, deeper, table) {
-            return false;
-        }
-        return true;
+    match deeper {
+        Some(held) => !deeper_rules::has_label(host, label, held, table),
+        None => !hosts::ends_at_label(host, label),
     }
-    if hosts::ends_at_label(host, label) {
-        return false;
-    }
-    true
 }
 
-// The first cause that holds of an entry, for the AppID with this label.
-fn judge(entry: &[u8], label: &[u8], deeper: Deeper, table: &[u8]) -> Verdict
-    ensures { Judges table.now label.now deeper entry.now result }
+// The first cause that holds of an entry, for the AppID with this label; none: it is kept.
+fn judge(entry: &[u8], label: &[u8], deeper: &Option<Deeper>, table: &[u8]) -> Option<Cause>
+    ensures { Judges table.now label.now deeper.now entry.now result }
 {
     // cause 1's bound
     if 512 < entry.len() {
-        return Verdict::Discarded(Cause::TooLong);
+        return Some(Cause::TooLong);
     }
     if origin::begins_https(entry) {
-        let Reading::Found(p) = origin::web_origin(entry) else {
-            return Verdict::Discarded(Cause::NotFacet);
+        let Some(p) = origin::web_origin(entry) else {
+            return Some(Cause::NotFacet);
         };
         let end = p.end;
         if is_other_label(&entry[8..end], label, deeper, table) {
-            return Verdict::Discarded(Cause::OtherLabel);
+            return Some(Cause::OtherLabel);
         }
-        return Verdict::Kept;
+        return None;
     }
     if origin::begins_native(entry) {
         if origin::is_native(entry) {
-            return Verdict::Kept;
+            return None;
         }
-        return Verdict::Discarded(Cause::NotFacet);
+        return Some(Cause::NotFacet);
     }
-    Verdict::Discarded(Cause::OtherScheme)
+    Some(Cause::OtherScheme)
 }
 
 // ---- an entry
 
-// How many bytes of it are held, above 512 where it has more; kept or discarded; and where the next one stands.
+// How many bytes of it are held, above 512 where it has more; the cause for which it is discarded, none where it is kept; and where
+// the next one stands.
 #[derive(Clone, Copy)]
 pub struct Entry {
     pub len: usize,
-    pub verdict: Verdict,
-    pub next: Next,
+    pub cause: Option<Cause>,
+    pub next: Option<usize>,
 }
 
-// The entry at a place, decoded; one without escapes is copied as it stands. A string that was read before stands there.
-fn decode_entry(out: &mut [u8; 512], body: &[u8], at: usize) -> Progress
+// The entry at a place, decoded: how many bytes are held, and the place behind it; one without escapes is copied as it stands. A
+// string that was read before stands there.
+fn decode_entry(out: &mut [u8; 512], body: &[u8], at: usize) -> Option<(usize, usize)>
     ensures { Decodes body.now at out.old out.new result }
 {
-    let Next::At(q) = json_text::strings::plain_end(body, at) else {
+    let Some(q) = json_text::strings::plain_end(body, at) else {
         return json_text::decoding::decode_string(out, body, at);
     };
     let from = at + 1;
     let entry = &body[from..q];
     normal_forms::write_bytes(entry, out, 0);
-    Progress::On(entry.len(), q + 1)
+    Some((entry.len(), q + 1))
 }
 
 // The entry at a place of the selected list, for the AppID with this owner. The array is that of the `Decoded` in which the caller
@@ -160,16 +140,16 @@ pub fn read_entry(
     body: &[u8],
     at: usize,
     appid: &[u8],
-    owner: Owner,
+    owner: &Owner,
     table: &[u8],
 ) -> Entry
-    ensures { Reads body.now at appid.now owner table.now out.old out.new result }
+    ensures { Reads body.now at appid.now owner.now table.now out.old out.new result }
 {
-    let Progress::On(n, j) = decode_entry(out, body, at) else {
+    let Some((n, j)) = decode_entry(out, body, at) else {
         return Entry {
             len: 0,
-            verdict: Verdict::Discarded(Cause::TooLong),
-            next: Next::Bad,
+            cause: Some(Cause::TooLong),
+            next: None,
         };
     };
     let next = trusted_list::next_entry(body, j);
@@ -177,16 +157,40 @@ pub fn read_entry(
     if 512 < n {
         return Entry {
             len: n,
-            verdict: Verdict::Discarded(Cause::TooLong),
+            cause: Some(Cause::TooLong),
             next,
         };
     }
     let label = ascii::part(appid, owner.start, owner.end);
     let entry = ascii::prefix(out, n);
-    let verdict = judge(entry, label, owner.deeper, table);
+    let cause = judge(entry, label, &owner.deeper, table);
     Entry {
         len: n,
-        verdict,
+        cause,
         next,
     }
+}
+
+// ---- the selected list
+
+// Refusals 9 to 13; or the list.
+pub fn select<'a>(
+    url: Url<'a>,
+    body: &'a [u8],
+    wanted: Version,
+    table: &'a [u8],
+) -> Result<Selected<'a>, Refusal>
+    ensures { Selects url.entry.appid.now wanted.major wanted.minor body.now table.now result }
+{
+    let ids = trusted_list::select(body, wanted)?;
+    let Some(owner) = find_owner(url, table) else {
+        return Err(Refusal::BadTable);
+    };
+    Ok(Selected {
+        appid: url.appid,
+        owner,
+        body,
+        ids,
+        table,
+    })
 }

@@ -1,4 +1,5 @@
 -- The exported cleaning: its refusal, its length, every byte of the output, and demand 3. Assumes nothing.
+use Rattle.std.specs.Prelude.{Result, Ok, Err}
 use mathlib.Core.Path.{◌≡◌, refl, sym, ap, ◌∙◌}
 use Prim.Native.Nat.{ℕ}
 use native.Mathlib.Omega.{arith}
@@ -10,8 +11,6 @@ use Rattle.refusals.specs.declared.Refusal.{Refusal}
 use Rattle.refusals.specs.Number.{refusal_number}
 use Rattle.cleaning.specs.Clean.{Cleaned, not_cleaned, cleaned, clean, cleaned_length, output_after}
 use Rattle.cleaning.specs.code.Meaning.{Cleans, refuses, writes}
-use Rattle.cleaning.specs.declared.Output.{Output}
-use Rattle.cleaning.specs.declared.Output.TheVariants.{Refused, Length}
 use Rattle.cleaning.proofs.ListLaws.{cleaned_small}
 use Rattle.cleaning.proofs.Padding.{padding_clean}
 use Rattle.facets.specs.Cleanings.{clean_number, SameOutput}
@@ -26,15 +25,15 @@ record Writes (before after : Bytes) (c : Cleaned) (n : ℕ) : Type 0 where
   long : n ≡ length list
   out : after ≡ written_over list before
 
-cleans_refused : {before after : Bytes} {c : Cleaned} {r : Output} {x : Refusal} → Cleans before after c r → r ≡ Refused x → Refuses before after c x
+cleans_refused : {before after : Bytes} {c : Cleaned} {r : Result ℕ Refusal} {x : Refusal} → Cleans before after c r → r ≡ Err x → Refuses before after c x
 cleans_refused (refuses {x = y} e) h = record { is = ap not_cleaned cc; stays = e }
 cleans_refused (writes e f) h = let z : ◌≡◌ {A = ℕ} 0 1 = cc in absurd (omega arith)
 
-cleans_written : {before after : Bytes} {c : Cleaned} {r : Output} {n : ℕ} → Cleans before after c r → r ≡ Length n → Writes before after c n
+cleans_written : {before after : Bytes} {c : Cleaned} {r : Result ℕ Refusal} {n : ℕ} → Cleans before after c r → r ≡ Ok n → Writes before after c n
 cleans_written (refuses e) h = let z : ◌≡◌ {A = ℕ} 0 1 = cc in absurd (omega arith)
 cleans_written {n} (writes {list} {n = m} e f) h = let y : m ≡ n = cc in record { list = list; is = refl; long = sym y ∙ e; out = f }
 
-module _ (appid : Bytes) (major minor : ℕ) (body table before : Bytes) {after : Bytes} {r : Output} (C : Cleans before after (clean appid major minor body table before) r) where
+module _ (appid : Bytes) (major minor : ℕ) (body table before : Bytes) {after : Bytes} {r : Result ℕ Refusal} (C : Cleans before after (clean appid major minor body table before) r) where
   -- the three promises, and the same of every other body
   same_output : {refusal len : ℕ} → refusal ≡ clean_number (clean appid major minor body table before) → len ≡ cleaned_length (clean appid major minor body table before)
       → after ≡ output_after before (clean appid major minor body table before) → SameOutput refusal len before after appid major minor body table
@@ -44,7 +43,7 @@ module _ (appid : Bytes) (major minor : ℕ) (body table before : Bytes) {after 
     is_output = λ other S. g ∙ ap (output_after before) (padding_clean appid table major minor body other S before);
   }
 
-  module _ {x : Refusal} (h : r ≡ Refused x) where
+  module _ {x : Refusal} (h : r ≡ Err x) where
     R : Refuses before after (clean appid major minor body table before) x
     R = cleans_refused C h
 
@@ -60,7 +59,7 @@ module _ (appid : Bytes) (major minor : ℕ) (body table before : Bytes) {after 
     pub refused_same : {n : ℕ} → n ≡ refusal_number x → SameOutput n 0 before after appid major minor body table
     refused_same e = same_output (refused_number e) refused_length refused_output
 
-  module _ {n : ℕ} (h : r ≡ Length n) where
+  module _ {n : ℕ} (h : r ≡ Ok n) where
     W : Writes before after (clean appid major minor body table before) n
     W = cleans_written C h
 

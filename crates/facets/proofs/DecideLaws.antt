@@ -1,14 +1,11 @@
 -- The exported decision: its number, its place, the label that rule 4 asks for, and demand 3. Assumes nothing.
 use mathlib.Core.Path.{◌≡◌, refl, sym, ap, ◌∙◌}
-use mathlib.Core.Option.{some}
-use Prim.Native.Nat.{ℕ, ◌+◌, ◌≤◌}
+use Rattle.std.specs.Prelude.{Some}
+use Prim.Native.Nat.{ℕ}
 use native.Mathlib.Omega.{arith}
-use mir.Syntax.{w16, w32}
+use mir.Syntax.{w32}
 use mir.Val.{Fits}
 use Rattle.ascii.specs.Ascii.{Bytes}
-use Rattle.refusals.specs.declared.Refusal.{Refusal}
-use Rattle.refusals.specs.declared.Refusal.TheVariants.{Stranger, BadAppId, ForeignAppId, BadRecord, OpenRedirect, BadLocation, NotFetched, WrongType, LongList, Unreadable, Misshapen, NoVersion, BadTable, NotListed, Full, BadHead}
-use Rattle.refusals.specs.Number.{refusal_number}
 use Rattle.origin.specs.Origin.{Authority, web_origin}
 use Rattle.decision.specs.Answer.{Answer as Given, rule1, rule2, rule3, rule4, fetch, refused, answer_number}
 use Rattle.decision.specs.Decide.{decide}
@@ -22,80 +19,23 @@ use Rattle.decision.proofs.Rule4.{rule4_label}
 use Rattle.facets.specs.Promises.{place_after, SameNumber, SamePlace, UnderLabel}
 use Rattle.facets.specs.code.Places.{SmallPlace}
 
--- ---- the number
-
-refusal_small : (r : Refusal) → refusal_number r ≤ 16
-refusal_small Stranger = omega arith
-refusal_small BadAppId = omega arith
-refusal_small ForeignAppId = omega arith
-refusal_small BadRecord = omega arith
-refusal_small OpenRedirect = omega arith
-refusal_small BadLocation = omega arith
-refusal_small NotFetched = omega arith
-refusal_small WrongType = omega arith
-refusal_small LongList = omega arith
-refusal_small Unreadable = omega arith
-refusal_small Misshapen = omega arith
-refusal_small NoVersion = omega arith
-refusal_small BadTable = omega arith
-refusal_small NotListed = omega arith
-refusal_small Full = omega arith
-refusal_small BadHead = omega arith
-
-pub refusal_fits : (x : Refusal) (n : ℕ) → n ≡ refusal_number x → Fits w16 (100 + n)
-refusal_fits x n e = record { fits = omega (arith, refusal_small x) }
-
-module _ (a : Answer) where
-  pub number_rule1 : a ≡ Rule1 → 1 ≡ answer_number (answer_of a)
-  unfolding answer_of
-  number_rule1 e = rw e
-
-  pub number_rule2 : a ≡ Rule2 → 2 ≡ answer_number (answer_of a)
-  unfolding answer_of
-  number_rule2 e = rw e
-
-  pub number_rule3 : a ≡ Rule3 → 3 ≡ answer_number (answer_of a)
-  unfolding answer_of
-  number_rule3 e = rw e
-
-  pub number_rule4 : {n : ℕ} → a ≡ Rule4 n → 4 ≡ answer_number (answer_of a)
-  unfolding answer_of
-  number_rule4 e = rw e
-
-  pub number_fetch : a ≡ Fetch → 5 ≡ answer_number (answer_of a)
-  unfolding answer_of
-  number_fetch e = rw e
-
-  pub number_refused : {x : Refusal} {n : ℕ} → a ≡ Refused x → n ≡ refusal_number x → 100 + n ≡ answer_number (answer_of a)
-  unfolding answer_of
-  number_refused e f = rw (e, f)
-
 -- ---- the place
 
 module _ (before : ℕ) (a : Answer) where
-  pub after_rule1 : a ≡ Rule1 → before ≡ place_after before (answer_of a)
-  unfolding answer_of
-  after_rule1 e = rw e
-
-  pub after_rule2 : a ≡ Rule2 → before ≡ place_after before (answer_of a)
-  unfolding answer_of
-  after_rule2 e = rw e
-
-  pub after_rule3 : a ≡ Rule3 → before ≡ place_after before (answer_of a)
-  unfolding answer_of
-  after_rule3 e = rw e
-
   pub after_rule4 : {n : ℕ} → a ≡ Rule4 n → n ≡ place_after before (answer_of a)
   unfolding answer_of
   after_rule4 e = rw e
 
-  pub after_fetch : a ≡ Fetch → before ≡ place_after before (answer_of a)
-  unfolding answer_of
-  after_fetch e = rw e
-
-  pub after_refused : {x : Refusal} → a ≡ Refused x → before ≡ place_after before (answer_of a)
-  unfolding answer_of
-  after_refused e = rw e
+  pub after_other : ((n : ℕ) → a ≡ Rule4 n → ⊥) → before ≡ place_after before (answer_of a)
+  after_other h = go a h
+    where
+      go : (a : Answer) → ((n : ℕ) → a ≡ Rule4 n → ⊥) → before ≡ place_after before (answer_of a)
+      go Rule1 h = unfold answer_of in refl
+      go Rule2 h = unfold answer_of in refl
+      go Rule3 h = unfold answer_of in refl
+      go (Rule4 n) h = absurd (h n refl)
+      go Fetch h = unfold answer_of in refl
+      go (Refused x) h = unfold answer_of in refl
 
 rule4_is : {a : Answer} {n : ℕ} → a ≡ Rule4 n → answer_of a ≡ rule4 n
 unfolding answer_of
@@ -114,7 +54,7 @@ module _ (caller appid : Bytes) (major minor : ℕ) (items lent body table : Byt
     pub decided_number : r ≡ answer_number (decide caller appid major minor items lent body table)
     decided_number = f ∙ ap answer_number e
 
-    four_label : (origin : Authority) → web_origin caller ≡ some origin → (d : Given) → decide caller appid major minor items lent body table ≡ d → answer_number d ≡ 4
+    four_label : (origin : Authority) → web_origin caller ≡ Some origin → (d : Given) → decide caller appid major minor items lent body table ≡ d → answer_number d ≡ 4
         → SameLabel table appid origin.host
     four_label origin web rule1 g h = absurd (omega (arith, h))
     four_label origin web rule2 g h = absurd (omega (arith, h))

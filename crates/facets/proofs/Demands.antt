@@ -1,7 +1,7 @@
 -- The claims of specs/Demands.antt. Assumes nothing.
 use mathlib.Core.Path.{◌≡◌, refl, sym, ap, ◌∙◌}
 use mathlib.Core.List.{List, [], ◌∷◌}
-use mathlib.Core.Option.{Option, none, some}
+use Rattle.std.specs.Prelude.{Option, None, Some}
 use Prim.Native.Nat.{ℕ}
 use native.Mathlib.Omega.{arith}
 use Rattle.ascii.specs.Ascii.{Bytes, filter_by}
@@ -49,9 +49,9 @@ owners caller appid major minor items lent body table origin place web e = rule4
 
 -- the list answers no fetch
 due_other : (x : Option Refusal) (o : Option ℕ) → unless x (by_place o) ≡ fetch → ⊥
-due_other (some x) o e = let z : ◌≡◌ {A = ℕ} 0 1 = cc in absurd (omega arith)
-due_other none none e = let z : ◌≡◌ {A = ℕ} 0 1 = cc in absurd (omega arith)
-due_other none (some n) e = let z : ◌≡◌ {A = ℕ} 0 1 = cc in absurd (omega arith)
+due_other (Some x) o e = let z : ◌≡◌ {A = ℕ} 0 1 = cc in absurd (omega arith)
+due_other None None e = let z : ◌≡◌ {A = ℕ} 0 1 = cc in absurd (omega arith)
+due_other None (Some n) e = let z : ◌≡◌ {A = ℕ} 0 1 = cc in absurd (omega arith)
 
 module _ (caller appid : Bytes) (major minor : ℕ) (body table from : Bytes) where
   stage_fetch : (s : Stage) → by_list caller appid major minor body table s ≡ fetch → if_fetch s from ≡ from

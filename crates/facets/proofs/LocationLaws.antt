@@ -14,7 +14,8 @@ use Rattle.ascii.specs.Ascii.{Bytes, is_none}
 use Rattle.origin.specs.Origin.{begins_https, https_url, is_facet}
 use Rattle.origin.specs.code.Parts.{part}
 use Rattle.refusals.specs.declared.Refusal.TheVariants.{Stranger, BadAppId}
-use Rattle.fetch_record.specs.Record.{Redirect, last_hop}
+use Rattle.fetch_record.specs.Record.{last_hop}
+use Rattle.fetch_record.specs.declared.item.Redirect.{Redirect}
 use Rattle.entries.specs.AppId.{is_bad_app_id}
 use Rattle.decision.specs.Answer.{refused}
 use Rattle.decision.specs.Decide.{settled, before_list}

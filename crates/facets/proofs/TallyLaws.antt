@@ -1,4 +1,5 @@
 -- The exported tally: a refusal and zeros, or zero and the counts. Assumes nothing.
+use Rattle.std.specs.Prelude.{Result, Ok, Err}
 use mathlib.Core.Path.{◌≡◌, sym, ◌∙◌}
 use Prim.Native.Nat.{ℕ}
 use Rattle.refusals.specs.declared.Refusal.{Refusal}
@@ -6,12 +7,10 @@ use Rattle.refusals.specs.Number.{refusal_number}
 use Rattle.tally.specs.Tally.{Tally, not_tallied, tallied}
 use Rattle.tally.specs.code.Meaning.{counts_of, tally_of}
 use Rattle.tally.specs.declared.Counts.{Counts as Held}
-use Rattle.tally.specs.declared.Tallied.{Tallied}
-use Rattle.tally.specs.declared.Tallied.TheVariants.{Refused, Counted}
 use Rattle.facets.specs.TallyFields.{tally_refusal, tally_counts}
 
-module _ {t : Tallied} (y : Tally) (e : tally_of t ≡ y) where
-  module _ {x : Refusal} (h : t ≡ Refused x) where
+module _ {t : Result Held Refusal} (y : Tally) (e : tally_of t ≡ y) where
+  module _ {x : Refusal} (h : t ≡ Err x) where
     refused : y ≡ not_tallied x
     unfolding tally_of
     refused = sym e ∙ rw h
@@ -34,7 +33,7 @@ module _ {t : Tallied} (y : Tally) (e : tally_of t ≡ y) where
     pub no_label : 0 ≡ (tally_counts y).other_label
     no_label = rw refused
 
-  module _ {c : Held} (h : t ≡ Counted c) where
+  module _ {c : Held} (h : t ≡ Ok c) where
     counted : y ≡ tallied (counts_of c)
     unfolding tally_of
     counted = sym e ∙ rw h

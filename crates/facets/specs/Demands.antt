@@ -1,7 +1,6 @@
 -- Demands 2 and 3, and what the requests of document 02 ask to be shown, as claims about the definitions (document 01 as the requests so far change it), each said
 -- once. A reviewer can open this file first; proofs/Demands.antt proves every claim. The exports (src/lib.rt) promise that they answer as these definitions.
-use Rattle.std.specs.Prelude.{◌≡◌, List, [], ◌∷◌, ◌++◌, ℕ, ◌≤◌, length}
-use Rattle.std.proofs.Math.Option.{some}
+use Rattle.std.specs.Prelude.{◌≡◌, List, [], ◌∷◌, ◌++◌, ℕ, ◌≤◌, length, Some}
 use Rattle.ascii.specs.Ascii.{Bytes}
 use Rattle.origin.specs.Origin.{Authority, web_origin}
 use Rattle.response_head.specs.ResponseHead.{Head}
@@ -39,7 +38,7 @@ Padding = (appid table : Bytes) (major minor : ℕ) (body₁ body₂ : Bytes) �
 pub data Inserted (appid table : Bytes) : List Bytes → List Bytes → Type 0 where
   neither : Inserted appid table [] []
   both : {e : Bytes} {es fs : List Bytes} → Inserted appid table es fs → Inserted appid table (e ∷ es) (e ∷ fs)
-  inserted : {c : Cause} {e : Bytes} {es fs : List Bytes} → cause appid table e ≡ some c → Inserted appid table es fs → Inserted appid table es (e ∷ fs)
+  inserted : {c : Cause} {e : Bytes} {es fs : List Bytes} → cause appid table e ≡ Some c → Inserted appid table es fs → Inserted appid table es (e ∷ fs)
 
 -- bodies that differ meet that premise: two accepted bodies, where the second selects the first's entries with discarded ones inserted
 abbrev pub Insertions : Type 0
@@ -51,7 +50,7 @@ Insertions =
 abbrev pub Owners : Type 0
 Owners =
     (caller appid : Bytes) (major minor : ℕ) (items lent body table : Bytes) (origin : Authority) (place : ℕ)
-    → web_origin caller ≡ some origin → decide caller appid major minor items lent body table ≡ rule4 place → SameLabel table appid origin.host
+    → web_origin caller ≡ Some origin → decide caller appid major minor items lent body table ≡ rule4 place → SameLabel table appid origin.host
 
 -- ---- demand 2: the fetch location
 

@@ -1,6 +1,5 @@
 -- What the exported decision promises besides its number: the place, and demand 3 (document 01, "The list" and "Fetch record and decision").
-use Rattle.std.specs.Prelude.{◌≡◌, ℕ}
-use Rattle.std.proofs.Math.Option.{some}
+use Rattle.std.specs.Prelude.{◌≡◌, ℕ, Some}
 use Rattle.ascii.specs.Ascii.{Bytes}
 use Rattle.origin.specs.Origin.{Authority, web_origin}
 use Rattle.entries.specs.SameKept.{SameKept}
@@ -27,4 +26,4 @@ pub record SamePlace (before after : ℕ) (caller appid : Bytes) (major minor : 
 
 -- "Allowed by a list means allowed by rule 4": a web caller has the number 4 only if its private label exists and is the AppID's
 pub record UnderLabel (number : ℕ) (caller appid table : Bytes) : Type 0 where
-  pub is : (origin : Authority) → web_origin caller ≡ some origin → number ≡ 4 → SameLabel table appid origin.host
+  pub is : (origin : Authority) → web_origin caller ≡ Some origin → number ≡ 4 → SameLabel table appid origin.host

@@ -1,23 +1,12 @@
 -- The fetch record (document 01, "Fetch record and decision").
-use mathlib.Core.List.{List, [], ◌∷◌, map, head?}
-use Rattle.std.specs.Prelude.{Bool, ◌&&◌, not, ℕ, zero, suc, ◌+◌, ◌*◌, length, take, drop, get_or, eqb, leb, if◌then◌else◌}
-use Rattle.std.proofs.Math.Option.{Option, none, some}
+use mathlib.Core.List.{List, [], ◌∷◌, map}
+use Rattle.std.specs.Prelude.{Bool, ◌&&◌, not, ℕ, zero, suc, ◌+◌, ◌*◌, length, take, drop, get_or, eqb, leb, if◌then◌else◌, Option, None, Some}
 use Rattle.ascii.specs.Ascii.{Bytes, ◌>>=◌, is_none, all, is_empty, last_of, between, begins_with}
 use Rattle.origin.specs.Origin.{https_url}
 use Rattle.refusals.specs.declared.Refusal.{Refusal}
 use Rattle.refusals.specs.declared.Refusal.TheVariants.{OpenRedirect, BadLocation}
-
--- kind 1: its Location is so many bytes of the lent text from a start on
-pub record Redirect : Type 0 where
-  pub status : ℕ
-  pub authorized : Bool
-  pub start : ℕ
-  pub size : ℕ
-
--- kind 2
-pub record Answer : Type 0 where
-  pub status : ℕ
-  pub type_seen : Bool
+use Rattle.fetch_record.specs.declared.item.Redirect.{Redirect}
+use Rattle.fetch_record.specs.declared.item.Answer.{Answer}
 
 -- redirects, then at most one answer
 pub record Fetched : Type 0 where
@@ -34,23 +23,23 @@ number s at = get_or s at 0 * 256 + get_or s (at + 1) 0
 unfoldable pub read_redirect : Bytes → Option Redirect
 read_redirect s =
     if leb 7 (length s) && between 300 399 (number s 0) && leb (get_or s 2 0) 1
-    then some (record { status = number s 0; authorized = eqb (get_or s 2 0) 1; start = number s 3; size = number s 5 })
-    else none
+    then Some (record { status = number s 0; authorized = eqb (get_or s 2 0) 1; start = number s 3; size = number s 5 })
+    else None
 
 -- the body of kind 2, 3 bytes: status, right content type seen (0 or 1)
 unfoldable pub read_answer : Bytes → Option Answer
 read_answer s =
     if leb 3 (length s) && leb (get_or s 2 0) 1
-    then some (record { status = number s 0; type_seen = eqb (get_or s 2 0) 1 })
-    else none
+    then Some (record { status = number s 0; type_seen = eqb (get_or s 2 0) 1 })
+    else None
 
 -- at most one answer, then the end
 unfoldable pub read_end : Bytes → Option Fetched
 read_end s =
-    if is_empty s then some (record { redirects = []; answer = none }) else
+    if is_empty s then Some (record { redirects = []; answer = None }) else
     if begins_with (2 ∷ []) s && eqb (length s) 4
-    then (read_answer (drop 1 s) >>= λ a. some (record { redirects = []; answer = some a }))
-    else none
+    then (read_answer (drop 1 s) >>= λ a. Some (record { redirects = []; answer = Some a }))
+    else None
 
 abbrev pub in_front : Redirect → Fetched → Fetched
 in_front h f = record { redirects = h ∷ f.redirects; answer = f.answer }
@@ -60,10 +49,15 @@ unfoldable pub read_items : ℕ → Bytes → Option Fetched
 read_items zero s = read_end s
 read_items (suc n) s =
     if begins_with (1 ∷ []) s
-    then (read_redirect (drop 1 s) >>= λ h. read_items n (drop 8 s) >>= λ f. some (in_front h f))
+    then (read_redirect (drop 1 s) >>= λ h. read_items n (drop 8 s) >>= λ f. Some (in_front h f))
     else read_end s
 
 -- ---- Locations in the lent text
+
+-- the first element, where there is one
+abbrev pub first_of : {A : Type 0} → List A → Option A
+first_of [] = None
+first_of (x ∷ xs) = Some x
 
 -- its start plus length does not pass the text's end
 unfoldable pub in_text : Bytes → Redirect → Bool
@@ -74,24 +68,24 @@ location lent h = take h.size (drop h.start lent)
 
 -- the last redirect's part of the text; none where there is no redirect
 unfoldable pub last_location : Bytes → List Redirect → Option Bytes
-last_location lent hs = head? (map (location lent) (last_of 1 hs))
+last_location lent hs = first_of (map (location lent) (last_of 1 hs))
 
 -- the last redirect; none where there is no redirect
 unfoldable pub last_redirect : List Redirect → Option Redirect
-last_redirect hs = head? (last_of 1 hs)
+last_redirect hs = first_of (last_of 1 hs)
 
 -- ---- the record and its refusals
 
 -- at most 8 redirects, then at most one answer, then the end; none: a bad record
 unfoldable pub read_record : Bytes → Bytes → Option Fetched
-read_record items lent = read_items 8 items >>= λ f. if all (in_text lent) f.redirects then some f else none
+read_record items lent = read_items 8 items >>= λ f. if all (in_text lent) f.redirects then Some f else None
 
 -- hop by hop, refusal 5 before 6
 unfoldable pub hop_refusal : Bytes → List Redirect → Option Refusal
-hop_refusal lent [] = none
+hop_refusal lent [] = None
 hop_refusal lent (h ∷ hs) =
-    if not h.authorized then some OpenRedirect else
-    if is_none (https_url (location lent h)) then some BadLocation else
+    if not h.authorized then Some OpenRedirect else
+    if is_none (https_url (location lent h)) then Some BadLocation else
     hop_refusal lent hs
 
 -- the last redirect of the record; none where there is none, or the record is bad

@@ -6,207 +6,152 @@ pub mod item;
 ghost use Rattle.std.specs.Prelude.{◌≡◌, true, [], ◌∷◌, ◌+◌, ◌*◌, ◌≤◌, length};
 ghost use Rattle.fetch_record.specs.Record.{read_end, in_text, hop_refusal, last_location, last_redirect, last_hop};
 ghost use Rattle.fetch_record.specs.Fetching.{fetching};
-ghost use Rattle.fetch_record.specs.code.Meaning.{redirect_of, redirect_at, redirects_in, end_read, Placed, Counts, Lays, hops_read, outcome_of, after_hops_of, target, Targets};
+ghost use Rattle.fetch_record.specs.code.Meaning.{redirect_at, redirects_in, end_read, Placed, Counts, Lays, hops_read, target, Targets};
 
-use item::{Answer, AnswerBody, Redirect, RedirectBody};
-use origin::Reading;
+use item::{Answer, Redirect};
 use refusals::Refusal;
 
-// What stands behind the redirects.
+// The items of a record, and the text in which its Locations stand.
 #[derive(Clone, Copy)]
-enum End {
-    Unanswered,
-    Answered(Answer),
-    Malformed,
-}
-
-// The redirects at the front of a record: how many they are.
-#[derive(Clone, Copy)]
-enum Front {
-    Redirects(usize),
-    Malformed,
+pub struct FetchRecord<'i, 't> {
+    pub items: &'i [u8],
+    pub text: &'t [u8],
 }
 
 // A whole record: how many redirects, and the answer behind them.
 #[derive(Clone, Copy)]
-enum Layout {
-    Unanswered(usize),
-    Answered(usize, Answer),
-    Malformed,
-}
-
-#[derive(Clone, Copy)]
-enum Hops {
-    Passed,
-    Refused(Refusal),
-}
-
-// What record and text settle.
-#[derive(Clone, Copy)]
-pub enum Outcome {
-    Refused(Refusal),
-    Fetch,
-    Answered(Answer),
+struct Layout {
+    count: usize,
+    answer: Option<Answer>,
 }
 
 // The last redirect's part of the text, by the places where it starts and ends.
 #[derive(Clone, Copy)]
-pub enum Target {
-    NoRedirect,
-    Part(usize, usize),
+pub struct Target {
+    pub from: usize,
+    pub to: usize,
 }
 
 // At most one answer, then the end: an answer is its kind, 2, and a body of 3 bytes.
-fn read_end(s: &[u8]) -> End
+fn read_end(s: &[u8]) -> Option<Option<Answer>>
     ensures { end_read result ≡ read_end s.now }
 {
     if s.len() == 0 {
-        return End::Unanswered;
+        return Some(None);
     }
     if s.len() != 4 {
-        return End::Malformed;
+        return None;
     }
     if s[0] != 2 {
-        return End::Malformed;
+        return None; // no answer
     }
-    match item::read_answer(&s[1..4]) {
-        AnswerBody::Answer(a) => End::Answered(a),
-        AnswerBody::Malformed => End::Malformed,
-    }
-}
-
-// The redirects at the front, at most 8, each well formed and with its Location inside the text. A redirect is its kind,
-// 1, and a body of 7 bytes: the n-th, from 0, stands at 8 * n.
-fn count_redirects(items: &[u8], text: &[u8]) -> Front
-    ensures { Counts items.now text.now result }
-{
-    let mut n = 0;
-    while n < 8 {
-        let at = 8 * n;
-        if items.len() <= at {
-            return Front::Redirects(n);
-        }
-        if items[at] != 1 {
-            return Front::Redirects(n);
-        }
-        if items.len() - at < 8 {
-            return Front::Malformed;
-        }
-        let from = at + 1;
-        let to = at + 8;
-        let RedirectBody::Redirect(h) = item::read_redirect(&items[from..to]) else {
-            return Front::Malformed;
-        };
-        if text.len() < item::location_end(h) {
-            return Front::Malformed;
-        }
-        n += 1;
-    }
-    Front::Redirects(n)
-}
-
-// The whole record, with each Location inside the text.
-fn lay(items: &[u8], text: &[u8]) -> Layout
-    ensures { Lays items.now text.now result }
-{
-    let Front::Redirects(n) = count_redirects(items, text) else {
-        return Layout::Malformed;
-    };
-    let at = 8 * n;
-    match read_end(&items[at..]) {
-        End::Unanswered => Layout::Unanswered(n),
-        End::Answered(a) => Layout::Answered(n, a),
-        End::Malformed => Layout::Malformed,
-    }
-}
-
-// The k-th redirect of a record, from 0.
-fn redirect_at(items: &[u8], k: usize) -> Redirect
-    requires { 8 * k + 8 ≤ length items.now }
-    ensures { redirect_of result ≡ redirect_at k items.now }
-{
-    let from = 8 * k + 1;
-    let to = 8 * k + 8;
-    item::redirect_in(&items[from..to])
+    Some(Some(item::read_answer(&s[1..4])?))
 }
 
 // One hop: refusal 5 before 6.
-fn hop(text: &[u8], h: Redirect) -> Hops
-    requires { in_text text.now (redirect_of h) ≡ true }
-    ensures { hops_read result ≡ hop_refusal text.now (redirect_of h ∷ []) }
+fn hop(text: &[u8], h: Redirect) -> Result<(), Refusal>
+    requires { in_text text.now h ≡ true }
+    ensures { hops_read result ≡ hop_refusal text.now (h ∷ []) }
 {
-    if h.authorized {
-        let start = h.start as usize;
-        let end = item::location_end(h);
-        match origin::https_url(&text[start..end]) {
-            Reading::Found(_) => Hops::Passed,
-            Reading::Malformed => Hops::Refused(Refusal::BadLocation),
-        }
-    } else {
-        Hops::Refused(Refusal::OpenRedirect)
+    if !h.authorized {
+        return Err(Refusal::OpenRedirect);
+    }
+    let start = h.start as usize;
+    let end = h.location_end();
+    match origin::https_url(&text[start..end]) {
+        Some(_) => Ok(()),
+        None => Err(Refusal::BadLocation),
     }
 }
 
-// The first n redirects, hop by hop.
-fn hops_of(items: &[u8], text: &[u8], n: usize) -> Hops
-    requires { Placed items.now text.now n }
-    ensures { hops_read result ≡ hop_refusal text.now (redirects_in n items.now) }
-{
-    let mut k = 0;
-    while k < n {
-        let h = redirect_at(items, k);
-        match hop(text, h) {
-            Hops::Refused(r) => {
-                return Hops::Refused(r);
+impl FetchRecord<'_, '_> {
+    // The redirects at the front, at most 8, each well formed and with its Location inside the text. A redirect is its kind,
+    // 1, and a body of 7 bytes: the n-th, from 0, stands at 8 * n.
+    fn count_redirects(self) -> Option<usize>
+        ensures { Counts self.entry.items.now self.entry.text.now result }
+    {
+        for n in 0..8 {
+            let at = 8 * n;
+            if self.items.len() <= at {
+                return Some(n);
             }
-            Hops::Passed => {
-                k += 1;
+            if self.items[at] != 1 {
+                return Some(n);
+            }
+            if self.items.len() - at < 8 {
+                return None;
+            }
+            let from = at + 1;
+            let to = at + 8;
+            let h = item::read_redirect(&self.items[from..to])?;
+            if self.text.len() < h.location_end() {
+                return None;
             }
         }
+        Some(8)
     }
-    Hops::Passed
-}
 
-// What follows where no hop is refused.
-fn after_hops(h: Hops, o: Outcome) -> Outcome
-    ensures { result ≡ after_hops_of h o }
-{
-    match h {
-        Hops::Refused(r) => Outcome::Refused(r),
-        Hops::Passed => o,
+    // The whole record, with each Location inside the text.
+    fn lay(self) -> Option<Layout>
+        ensures { Lays self.entry.items.now self.entry.text.now result }
+    {
+        let count = self.count_redirects()?;
+        let at = 8 * count;
+        let answer = read_end(&self.items[at..])?;
+        Some(Layout { count, answer })
     }
-}
 
-// Refusal 4, over the whole record; then hop by hop 5 before 6; fetch, where the record has no answer.
-pub fn fetching(items: &[u8], text: &[u8]) -> Outcome
-    ensures { outcome_of result ≡ fetching items.now text.now }
-{
-    match lay(items, text) {
-        Layout::Unanswered(n) => after_hops(hops_of(items, text, n), Outcome::Fetch),
-        Layout::Answered(n, a) => after_hops(hops_of(items, text, n), Outcome::Answered(a)),
-        Layout::Malformed => Outcome::Refused(Refusal::BadRecord),
+    // The k-th redirect of a record, from 0.
+    fn redirect_at(self, k: usize) -> Redirect
+        requires { 8 * k + 8 ≤ length self.items.now }
+        ensures { result ≡ redirect_at k self.entry.items.now }
+    {
+        let from = 8 * k + 1;
+        let to = 8 * k + 8;
+        item::redirect_in(&self.items[from..to])
     }
-}
 
-// Where the last redirect's Location stands in the text; NoRedirect for a bad record.
-pub fn last_location(items: &[u8], text: &[u8]) -> Target
-    ensures { Targets text.now (target items.now text.now) (last_hop items.now text.now) result }
-{
-    match lay(items, text) {
-        Layout::Unanswered(n) => last_of(items, text, n),
-        Layout::Answered(n, _) => last_of(items, text, n),
-        Layout::Malformed => Target::NoRedirect,
+    // The first n redirects, hop by hop.
+    fn hops_of(self, n: usize) -> Result<(), Refusal>
+        requires { Placed self.items.now self.text.now n }
+        ensures { hops_read result ≡ hop_refusal self.entry.text.now (redirects_in n self.entry.items.now) }
+    {
+        for k in 0..n {
+            hop(self.text, self.redirect_at(k))?;
+        }
+        Ok(())
     }
-}
 
-// The Location of the last of the first n redirects.
-fn last_of(items: &[u8], text: &[u8], n: usize) -> Target
-    requires { Placed items.now text.now n }
-    ensures { Targets text.now (last_location text.now (redirects_in n items.now)) (last_redirect (redirects_in n items.now)) result }
-{
-    if n == 0 {
-        return Target::NoRedirect;
+    // Refusal 4, over the whole record; then hop by hop 5 before 6; none, for fetch, where the record has no answer.
+    pub fn fetching(self) -> Result<Option<Answer>, Refusal>
+        ensures { result ≡ fetching self.entry.items.now self.entry.text.now }
+    {
+        let Some(layout) = self.lay() else {
+            return Err(Refusal::BadRecord);
+        };
+        self.hops_of(layout.count)?;
+        Ok(layout.answer)
     }
-    let h = redirect_at(items, n - 1);
-    Target::Part(h.start as usize, item::location_end(h))
+
+    // Where the last redirect's Location stands in the text; none for a bad record too.
+    pub fn last_location(self) -> Option<Target>
+        ensures { Targets self.entry.text.now (target self.entry.items.now self.entry.text.now) (last_hop self.entry.items.now self.entry.text.now) result }
+    {
+        self.last_of(self.lay()?.count)
+    }
+
+    // The Location of the last of the first n redirects.
+    fn last_of(self, n: usize) -> Option<Target>
+        requires { Placed self.items.now self.text.now n }
+        ensures { Targets self.entry.text.now (last_location self.entry.text.now (redirects_in n self.entry.items.now)) (last_redirect (redirects_in n self.entry.items.now)) result }
+    {
+        if n == 0 {
+            return None;
+        }
+        let h = self.redirect_at(n - 1);
+        Some(Target {
+            from: h.start as usize,
+            to: h.location_end(),
+        })
+    }
 }

@@ -14,6 +14,7 @@ pub fn read_full<R: Read>(reader: &mut R, buf: &mut [u8]) -> io::Result<usize>
     ensures bytes { ReadsFull (R.remaining reader.old) (R.remaining reader.new) result buf.new }
 {
     let mut done = 0;
+    // each read says how far the next one begins
     while done < buf.len() {
         let n = reader.read(&mut buf[done..])?;
         if n == 0 {

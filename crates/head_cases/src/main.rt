@@ -3,7 +3,6 @@
 
 ghost use Rattle.std.specs.Prelude.{◌≤◌};
 
-use head_items::Lengths;
 use std::io;
 
 fn write(rt: &impl Print, s: &[u8]) -> io::Result<()> {
@@ -33,14 +32,14 @@ fn show_into(
     write(rt, label)?;
     write(rt, b":")?;
     match head_items::head_item(head, start, item, text) {
-        Lengths::Refused(x) => {
+        Err(x) => {
             write(rt, b" refused ")?;
-            rt.print(refusals::number(x))?;
+            rt.print(u16::from(x))?;
         }
-        Lengths::Written(n, m) => {
-            write_numbers(rt, ascii::prefix(item, n))?;
+        Ok(written) => {
+            write_numbers(rt, ascii::prefix(item, written.item))?;
             write(rt, b" ")?;
-            write(rt, ascii::prefix(text, m))?;
+            write(rt, ascii::prefix(text, written.text))?;
         }
     }
     write(rt, b"\n")

@@ -1,8 +1,7 @@
 -- What is written of a head. Assumes nothing.
-use Rattle.std.specs.Prelude.{if◌then◌else◌}
+use Rattle.std.specs.Prelude.{if◌then◌else◌, Option, None, Some}
 use mathlib.Core.Path.{◌≡◌, refl}
 use mathlib.Core.Bool.{Bool, true, false, ◌&&◌}
-use mathlib.Core.Option.{Option, none, some}
 use Prim.Native.Nat.{ℕ, ◌≤◌}
 use native.Mathlib.Omega.{arith}
 use lib.ListN.{length}
@@ -19,7 +18,7 @@ pub record WrittenOf (start : ℕ) (h : Head) (item x : Bytes) : Type 0 where
   pub text_is : x ≡ location_text h
   pub fits : start_fits start h ≡ true
 
-pub written_told : (start : ℕ) (before lent : Bytes) (h : Head) (item x : Bytes) → item_for start before lent (some h) ≡ written item x → WrittenOf start h item x
+pub written_told : (start : ℕ) (before lent : Bytes) (h : Head) (item x : Bytes) → item_for start before lent (Some h) ≡ written item x → WrittenOf start h item x
 unfolding item_for fitting
 written_told start before lent h item x = go (leb (length (item_of start h)) (length before) && leb (length (location_text h)) (length lent)) (start_fits start h) refl
   where
@@ -38,7 +37,7 @@ unfolding item_of two_bytes
 item_small start (redirect status a x) = omega arith
 item_small start (answer status t) = omega arith
 
-text_small : (head : Bytes) (h : Head) → read_head head ≡ some h → length (location_text h) ≤ 8192
+text_small : (head : Bytes) (h : Head) → read_head head ≡ Some h → length (location_text h) ≤ 8192
 unfolding location_text
 text_small head (redirect status a x) e = (redirect_bounds head status a x e).size
 text_small head (answer status t) e = omega arith
@@ -48,7 +47,7 @@ unfolding head_item item_for
 written_small head start before lent item x = go (read_head head) refl
   where
     go : (o : Option Head) → read_head head ≡ o → item_for start before lent o ≡ written item x → Small item x
-    go none f e = let z : ◌≡◌ {A = ℕ} 0 1 = cc in absurd (omega arith)
-    go (some h) f e =
+    go None f e = let z : ◌≡◌ {A = ℕ} 0 1 = cc in absurd (omega arith)
+    go (Some h) f e =
         let W = written_told start before lent h item x e in
         record { item_small = rw W.item_is (item_small start h); text_small = rw W.text_is (text_small head h f) }

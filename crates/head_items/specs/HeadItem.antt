@@ -1,6 +1,5 @@
 -- The record item that a response head makes, and its Location text (document 02, S-2).
-use Rattle.std.specs.Prelude.{[], ◌∷◌, ◌++◌, Bool, true, false, ◌&&◌, ℕ, ◌/◌, ◌%◌, length, leb, if◌then◌else◌}
-use Rattle.std.proofs.Math.Option.{Option, none, some}
+use Rattle.std.specs.Prelude.{[], ◌∷◌, ◌++◌, Bool, true, false, ◌&&◌, ℕ, ◌/◌, ◌%◌, length, leb, if◌then◌else◌, Option, None, Some}
 use Rattle.ascii.specs.Ascii.{Bytes, written_over}
 use Rattle.refusals.specs.declared.Refusal.{Refusal}
 use Rattle.refusals.specs.declared.Refusal.TheVariants.{Full, BadHead}
@@ -50,8 +49,8 @@ fitting start item_before text_before h =
 
 -- before it 16, head not in this form or a redirect without its one Location
 unfoldable pub item_for : ℕ → Bytes → Bytes → Option Head → HeadItem
-item_for start item_before text_before none = refused BadHead
-item_for start item_before text_before (some h) = fitting start item_before text_before h
+item_for start item_before text_before None = refused BadHead
+item_for start item_before text_before (Some h) = fitting start item_before text_before h
 
 unfoldable pub head_item : Bytes → ℕ → Bytes → Bytes → HeadItem
 head_item head start item_before text_before = item_for start item_before text_before (read_head head)

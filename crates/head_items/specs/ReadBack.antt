@@ -1,8 +1,9 @@
 -- What the record reader is to read of written items: just what the heads say (document 02, S-2).
-use Rattle.std.specs.Prelude.{◌≡◌, Bool, List, [], ◌∷◌, ◌++◌, map, ℕ, ◌+◌, ◌≤◌, length, take, drop}
-use Rattle.std.proofs.Math.Option.{Option, none, some}
+use Rattle.std.specs.Prelude.{◌≡◌, Bool, List, [], ◌∷◌, ◌++◌, map, ℕ, ◌+◌, ◌≤◌, length, take, drop, Option, None, Some}
 use Rattle.ascii.specs.Ascii.{Bytes}
-use Rattle.fetch_record.specs.Record.{Redirect, Answer, Fetched, location as location_in, read_record}
+use Rattle.fetch_record.specs.Record.{Fetched, location as location_in, read_record}
+use Rattle.fetch_record.specs.declared.item.Redirect.{Redirect}
+use Rattle.fetch_record.specs.declared.item.Answer.{Answer}
 use Rattle.response_head.specs.ResponseHead.{Head, redirect, answer, read_head}
 use Rattle.head_items.specs.HeadItem.{written, head_item}
 
@@ -28,7 +29,7 @@ pub record Item (start : ℕ) (h : Head) (item : Bytes) : Type 0 where
   pub item_before : Bytes
   pub text_before : Bytes
   pub location : Bytes
-  pub reads : read_head head ≡ some h
+  pub reads : read_head head ≡ Some h
   pub writes : head_item head start item_before text_before ≡ written item location
 
 -- ---- what a record says
@@ -38,8 +39,8 @@ abbrev pub redirect_said : Bytes → Redirect → Head
 redirect_said lent r = redirect r.status r.authorized (location_in lent r)
 
 abbrev pub answer_said : Option Answer → List Head
-answer_said none = []
-answer_said (some a) = answer a.status a.type_seen ∷ []
+answer_said None = []
+answer_said (Some a) = answer a.status a.type_seen ∷ []
 
 -- its redirects in order, then its answer where there is one
 abbrev pub said_by : Bytes → Fetched → List Head
@@ -63,6 +64,6 @@ pub data AnswerItem : List Head → Bytes → Type 0 where
 -- these items are read as a record that says just these heads in order, each redirect's Location at its start
 pub record ReadsBack (items lent : Bytes) (starts : List ℕ) (hs : List Head) : Type 0 where
   pub fetched : Fetched
-  pub is : read_record items lent ≡ some fetched
+  pub is : read_record items lent ≡ Some fetched
   pub says : said_by lent fetched ≡ hs
   pub starts_are : map (λ (r : Redirect). r.start) fetched.redirects ≡ starts

@@ -1,48 +1,36 @@
 -- How many labels a host has, where they begin, and whether it ends in a text. Assumes nothing.
+use Rattle.std.specs.Prelude.{cond, if◌then◌else◌, count_by}
+use Rattle.std.specs.List.{list_all}
+use Rattle.std.proofs.lemmas.List.Sums.{sum_by-cons}
 use mathlib.Core.Path.{◌≡◌, refl, sym, ap, ◌∙◌}
 use mathlib.Core.Bool.{Bool, true, false, and-false, and-true, or-true}
 use mathlib.Core.List.{List, [], ◌∷◌, append-nil}
 use Prim.Native.Nat.{ℕ, zero, suc, ◌+◌, ◌-◌, ◌≤◌, ◌<◌}
 use native.Mathlib.Numerals.{add-one}
-use native.Mathlib.Nat.{add-zero, le_of_suc-le-suc, not-suc-le-zero}
 use native.Mathlib.Omega.{arith}
 use lib.ListN.{length, get_or, take, drop, drop_of_length-le, length-drop}
-use lib.Seq.{drop-cons, drop-nil, take_all, get_or-drop}
+use lib.Seq.{drop-cons, drop-nil, take_all}
 use lib.Dec.{eqb}
 use borrow.Author.Tests.{eq-eqb, ne_eqb, lt-leb, le-leb}
-use Rattle.ascii.specs.Ascii.{Bytes, all, last_of, join_head, split_at, prefixed, join_with, is_digit, lower_byte, lower, same, same_no_case}
-use Rattle.ascii.proofs.Compare.{length_lower}
+use Rattle.ascii.specs.Ascii.{Bytes, all, last_of, join_head, split_at, prefixed, join_with, is_digit, same_no_case}
 use Rattle.ascii.proofs.Split.{split_parts, split_here, split_other, head_length, head_drop, join_split}
 use Rattle.hosts.specs.Host.{labels, is_address}
 use Rattle.hosts.specs.code.Place.{Stands, is_boundary, ends_at_label}
 
 -- ---- how many labels
 
-pub record Counted (h : Bytes) (goal n i : ℕ) : Type 0 where
-  pub few : n ≤ i
-  pub inside : i ≤ length h
-  pub is : n + length (split_at 46 (drop i h)) ≡ goal
+dots : (s : Bytes) → length (split_at 46 s) ≡ count_by (λ b. eqb b 46) s + 1
+unfolding split_at
+dots [] = refl
+dots (b ∷ s) = go (eqb b 46) (dots s) ∙ ap (λ n. n + 1) (sym (sum_by-cons (λ x. cond (eqb x 46) 1 0) b s))
+  where
+    go : (u : Bool) → length (split_at 46 s) ≡ count_by (λ x. eqb x 46) s + 1 → length (if u then [] ∷ split_at 46 s else join_head b (split_at 46 s)) ≡ cond u 1 0 + count_by (λ x. eqb x 46) s + 1
+    go true ih = omega (arith, ih)
+    go false ih = head_length b (split_at 46 s) (split_parts 46 s) ∙ ih ∙ omega arith
 
-pub count_starts : (h : Bytes) → Counted h (length (labels h)) 0 0
+pub count_is : (h : Bytes) {n : ℕ} → n ≡ count_by (λ b. eqb b 46) h → n + 1 ≡ length (labels h)
 unfolding labels
-count_starts h = record { few = omega arith; inside = omega arith; is = omega arith }
-
-module _ {h : Bytes} {goal n i : ℕ} (C : Counted h goal n i) where
-  pub count_ends : length h ≤ i → n + 1 ≡ goal
-  unfolding split_at
-  count_ends l = (rw (drop_of_length-le h l)) ∙ C.is
-
-  module _ (l : i < length h) where
-    pub count_dot : get_or h i 0 ≡ 46 → Counted h goal (n + 1) (i + 1)
-    count_dot e =
-        let f : length (split_at 46 (drop i h)) ≡ suc (length (split_at 46 (drop (i + 1) h))) = rw (add-one, drop-cons h i 0 l, e, split_here) in
-        record { few = omega (arith, C.few); inside = omega arith; is = omega (arith, C.is) }
-
-    pub count_other : (get_or h i 0 ≡ 46 → ⊥) → Counted h goal n (i + 1)
-    count_other e =
-        let f : length (split_at 46 (drop i h)) ≡ length (split_at 46 (drop (i + 1) h)) =
-        rw (add-one, drop-cons h i 0 l, split_other 46 _ _ e) (head_length _ _ (split_parts 46 (drop (suc i) h))) in
-        record { few = omega (arith, C.few); inside = omega arith; is = omega (arith, C.is) }
+count_is h e = omega (arith, e, dots h)
 
 -- ---- where labels begin
 
@@ -99,25 +87,10 @@ last_some h n e S = rw (← e) S
 
 -- ---- the last label is all digits
 
-pub record DigitsFrom (s : Bytes) (goal : Bool) (i : ℕ) : Type 0 where
-  pub is : all is_digit (drop i s) ≡ goal
-
-pub digits_starts : (s : Bytes) → DigitsFrom s (all is_digit s) 0
-digits_starts s = record { is = refl }
-
-module _ {s : Bytes} {goal : Bool} {i : ℕ} (D : DigitsFrom s goal i) where
-  pub digits_ends : length s ≤ i → true ≡ goal
-  unfolding all
-  digits_ends h = (rw (drop_of_length-le s h)) ∙ D.is
-
-  module _ {r : Bool} (h : i < length s) (t : r ≡ is_digit (get_or s i 0)) where
-    pub digits_other : r ≡ false → false ≡ goal
-    unfolding all
-    digits_other w = sym (rw (drop-cons s i 0 h, ← t, w)) ∙ D.is
-
-    pub digits_more : r ≡ true → DigitsFrom s goal (i + 1)
-    unfolding all
-    digits_more w = record { is = sym (rw (add-one, drop-cons s i 0 h, ← t, w)) ∙ D.is }
+all_is : (p : ℕ → Bool) (s : Bytes) → list_all p s ≡ all p s
+unfolding all
+all_is p [] = refl
+all_is p (b ∷ s) = rw (all_is p s)
 
 at_most_one : (p : ℕ → Bool) (ls : List Bytes) → length ls ≤ 1 → all (all p) ls ≡ all p (join_with 46 ls)
 unfolding all join_with prefixed
@@ -128,10 +101,11 @@ at_most_one p (l ∷ m ∷ ls) h = absurd (omega arith)
 pub rest_whole : (s : Bytes) (k : ℕ) → take (length s - k) (drop k s) ≡ drop k s
 rest_whole s k = take_all (length s - k) (drop k s) (omega (arith, length-drop k s))
 
-pub address_is : (h : Bytes) {k : ℕ} {r : Bool} → Stands (last_of 1 (labels h)) h k → r ≡ all is_digit (take (length h - k) (drop k h)) → r ≡ is_address (labels h)
+pub address_is : (h : Bytes) {k : ℕ} {r : Bool} → Stands (last_of 1 (labels h)) h k → r ≡ list_all is_digit (take (length h - k) (drop k h)) → r ≡ is_address (labels h)
 unfolding is_address last_of
 address_is h {k} S e =
-    e ∙ rw (rest_whole h k, S.is) (sym (at_most_one is_digit (drop (length (labels h) - 1) (labels h)) (omega (arith, length-drop (length (labels h) - 1) (labels h)))))
+    let last = drop (length (labels h) - 1) (labels h) in
+    e ∙ rw (rest_whole h k, S.is) (all_is is_digit (join_with 46 last) ∙ sym (at_most_one is_digit last (omega (arith, length-drop (length (labels h) - 1) (labels h)))))
 
 -- ---- an end of a host
 
@@ -148,59 +122,6 @@ module _ (h : Bytes) (k : ℕ) where
   unfolding is_boundary
   boundary_none m n = rw (ne_eqb _ _ m, ne_eqb _ _ n)
 
-pub get_d_lower : (s : Bytes) (i : ℕ) → i < length s → get_or (lower s) i 0 ≡ lower_byte (get_or s i 0)
-unfolding lower
-get_d_lower [] i h = absurd (not-suc-le-zero h)
-get_d_lower (b ∷ s) zero h = refl
-get_d_lower (b ∷ s) (suc i) h = get_d_lower s i (le_of_suc-le-suc h)
-
-apart : (s t : Bytes) (j : ℕ) → j < length s → j < length t → eqb (get_or s j 0) (get_or t j 0) ≡ false → same s t ≡ false
-unfolding same
-apart [] t j h k n = absurd (not-suc-le-zero h)
-apart (b ∷ s) [] j h k n = absurd (not-suc-le-zero k)
-apart (b ∷ s) (c ∷ t) zero h k n = rw n
-apart (b ∷ s) (c ∷ t) (suc j) h k n = rw (apart s t j (le_of_suc-le-suc h) (le_of_suc-le-suc k) n, and-false)
-
-pub record Rest (h w : Bytes) (k i : ℕ) : Type 0 where
-  pub whole : k + length w ≡ length h
-  pub inside : i ≤ length w
-  pub is : same (lower (drop (k + i) h)) (lower (drop i w)) ≡ true
-
-pub rest_starts : (h w : Bytes) (k : ℕ) → k + length w ≡ length h → Rest h w k (length w)
-unfolding same lower
-rest_starts h w k e =
-    let a : length h ≤ k + length w = omega arith in
-    let b : length w ≤ length w = omega arith in
-    record { whole = e; inside = omega arith; is = rw (drop_of_length-le h a, drop_of_length-le w b) }
-
-module _ {h w : Bytes} {k i : ℕ} (R : Rest h w k i) where
-  pub rest_ends : i ≤ 0 → true ≡ same_no_case (drop k h) w
-  unfolding same_no_case
-  rest_ends l = let e : i ≡ 0 = omega arith in sym (rw (e, add-zero) at R.is)
-
-  module _ {r : Bool} (l : 0 < i) (t : r ≡ eqb (lower_byte (get_or h (k + (i - 1)) 0)) (lower_byte (get_or w (i - 1) 0))) where
-    pub rest_index : k + (i - 1) < length h
-    rest_index = omega (arith, R.whole, R.inside)
-
-    pub rest_more : r ≡ true → Rest h w k (i - 1)
-    unfolding same lower
-    rest_more v =
-        let a : k + (i - 1) < length h = omega (arith, R.whole, R.inside) in
-        let b : i - 1 < length w = omega (arith, R.inside) in
-        let e : suc (k + (i - 1)) ≡ k + i = omega arith in
-        let f : suc (i - 1) ≡ i = omega arith in
-        let x : drop (k + (i - 1)) h ≡ get_or h (k + (i - 1)) 0 ∷ drop (k + i) h = drop-cons h (k + (i - 1)) 0 a ∙ ap (λ (n : ℕ). get_or h (k + (i - 1)) 0 ∷ drop n h) e in
-        let y : drop (i - 1) w ≡ get_or w (i - 1) 0 ∷ drop i w = drop-cons w (i - 1) 0 b ∙ ap (λ (n : ℕ). get_or w (i - 1) 0 ∷ drop n w) f in
-        record { whole = R.whole; inside = omega (arith, R.inside); is = rw (x, y, ← t, v) R.is }
-
-    pub rest_differs : r ≡ false → false ≡ same_no_case (drop k h) w
-    unfolding same_no_case
-    rest_differs v =
-        let a : i - 1 < length (drop k h) = omega (arith, R.whole, R.inside, length-drop k h) in
-        let b : i - 1 < length w = omega (arith, R.inside) in
-        sym (apart (lower (drop k h)) (lower w) (i - 1) (rw length_lower a) (rw length_lower b)
-        (rw (get_d_lower (drop k h) (i - 1) a, get_d_lower w (i - 1) b, get_or-drop, ← t) v))
-
 module _ (h w : Bytes) where
   pub ends_long : length h < length w → false ≡ ends_at_label w h
   unfolding ends_at_label
@@ -211,6 +132,6 @@ module _ (h w : Bytes) where
     unfolding ends_at_label
     ends_not v = rw (← t, v, and-false)
 
-    pub ends_rest : {r : Bool} → b ≡ true → r ≡ same_no_case (drop (length h - length w) h) w → r ≡ ends_at_label w h
+    pub ends_rest : {r : Bool} → b ≡ true → r ≡ same_no_case (take (length h - (length h - length w)) (drop (length h - length w) h)) w → r ≡ ends_at_label w h
     unfolding ends_at_label
-    ends_rest v e = e ∙ rw (le-leb (length w) (length h) l, ← t, v)
+    ends_rest v e = e ∙ rw (rest_whole h (length h - length w), le-leb (length w) (length h) l, ← t, v)

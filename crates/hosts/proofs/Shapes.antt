@@ -8,32 +8,20 @@ use native.Mathlib.Omega.{arith}
 use lib.ListN.{length, get_or, take, drop, drop_of_length-le}
 use lib.Seq.{drop-cons}
 use lib.Dec.{eqb, ltb}
-use borrow.Author.Tests.{eq-eqb, ne_eqb, eqb-true, eqb-false, lt-leb, le-leb, lt-ltb, ltb-true, ltb-false}
+use borrow.Author.Tests.{eq-eqb, ne_eqb, eqb-true, eqb-false, lt-leb, le-leb}
 use Rattle.ascii.specs.Ascii.{Bytes, all, take_while, last_of, join_head, split_at, is_digit, is_letter, is_upper, same}
-use Rattle.ascii.specs.Class.{class_of, Classifies}
+use Rattle.ascii.specs.Class.{class_of}
 use Rattle.ascii.proofs.Bytes.{agree}
-use Rattle.ascii.proofs.Scan.{while_all, while_stops, scan_rest, scan_part, scan_from, scan_to}
+use Rattle.ascii.proofs.Scan.{while_all, while_stops, scan_rest, scan_part, scan_to}
 use Rattle.ascii.proofs.Split.{split_parts, split_other, on_first, split_while, on_first_end, on_first_here}
 use Rattle.hosts.specs.Host.{labels, is_label_byte, is_shaped, is_label, is_host}
-use Rattle.hosts.specs.code.Lent.{has_label_class, HostBy}
 
 -- ---- label bytes by their class
 
-pub class_is : (table : Bytes) (b : ℕ) → b < 256 → ltb (get_or table b 0) 3 ≡ has_label_class table b
-unfolding has_label_class
-class_is table b h = rw (lt-ltb b 256 h)
-
-no_label_byte : (b : ℕ) → 256 ≤ b → is_label_byte b ≡ false
-unfolding is_label_byte is_letter is_upper is_digit
-no_label_byte b h = rw (lt-leb b 122 (omega arith), lt-leb b 90 (omega arith), lt-leb b 57 (omega arith), and-false, and-false, and-false, ne_eqb b 45 (λ z. omega arith))
-
 -- the classes 0, 1 and 2 are the label bytes
-label_class : (table : Bytes) → Classifies table → (b : ℕ) → has_label_class table b ≡ is_label_byte b
-label_class table C b = go (ltb b 256) refl
-  where
-    go : (u : Bool) → ltb b 256 ≡ u → has_label_class table b ≡ is_label_byte b
-    go true e = let h = ltb-true b 256 e in unfold has_label_class class_of is_letter is_upper is_digit is_label_byte in (rw (e, C.is b h) (agree (λ k. ltb (class_of k) 3) is_label_byte tt b h))
-    go false e = unfold has_label_class in (rw e (sym (no_label_byte b (ltb-false b 256 e))))
+pub label_class : (b : ℕ) {c : ℕ} → c ≡ class_of b → b < 256 → ltb c 3 ≡ is_label_byte b
+unfolding class_of is_letter is_upper is_digit is_label_byte
+label_class b e h = rw e (agree (λ k. ltb (class_of k) 3) is_label_byte tt b h)
 
 pub while_same : (f g : ℕ → Bool) → ((b : ℕ) → f b ≡ g b) → (l : Bytes) → take_while f l ≡ take_while g l
 unfolding take_while
@@ -116,75 +104,53 @@ pub host_long : (s : Bytes) → 253 < length s → false ≡ is_host s
 unfolding is_host
 host_long s h = rw (lt-leb (length s) 253 h, and-false)
 
-module _ (classes s : Bytes) {r : Bool} where
-  -- what is so by every table
-  pub host_anyhow : r ≡ is_host s → HostBy classes s r
-  host_anyhow e = record { is = λ C. e }
-
-  pub host_told : HostBy classes s r → Classifies classes → r ≡ is_host s
-  host_told H C = H.is C
-
 -- the labels from a place on decide
-pub record HostFrom (classes s : Bytes) (from : ℕ) : Type 0 where
+pub record HostFrom (s : Bytes) (from : ℕ) : Type 0 where
   pub inside : from ≤ length s
-  pub is : Classifies classes → all is_label (split_at 46 (drop from s)) ≡ is_host s
+  pub is : all is_label (split_at 46 (drop from s)) ≡ is_host s
 
-pub host_starts : (classes s : Bytes) → 1 ≤ length s → length s ≤ 253 → HostFrom classes s 0
+pub host_starts : (s : Bytes) → 1 ≤ length s → length s ≤ 253 → HostFrom s 0
 unfolding is_host labels
-host_starts classes s h k = record { inside = omega arith; is = λ C. rw (le-leb 1 (length s) h, le-leb (length s) 253 k) }
+host_starts s h k = record { inside = omega arith; is = rw (le-leb 1 (length s) h, le-leb (length s) 253 k) }
 
-module _ {classes s : Bytes} {from : ℕ} (H : HostFrom classes s from) {to : ℕ} (g : to ≡ from + length (take_while (has_label_class classes) (drop from s))) where
-  pub host_part_start : from ≤ to
-  host_part_start = scan_from (has_label_class classes) s from to g
-
+module _ {s : Bytes} {from : ℕ} (H : HostFrom s from) {to : ℕ} (g : to ≡ from + length (take_while is_label_byte (drop from s))) where
   pub host_part_end : to ≤ length s
-  host_part_end = scan_to (has_label_class classes) s from to g H.inside
+  host_part_end = scan_to is_label_byte s from to g H.inside
 
   passing : all is_label_byte (take_while is_label_byte (drop from s)) ≡ true
   passing = while_all is_label_byte (drop from s)
 
-  module _ (C : Classifies classes) where
-    scanned : to ≡ from + length (take_while is_label_byte (drop from s))
-    scanned = g ∙ rw (while_same (has_label_class classes) is_label_byte (label_class classes C) (drop from s))
+  split_is : all is_label (on_first (take_while is_label_byte (drop from s)) (split_at 46 (drop to s))) ≡ is_host s
+  split_is = rw (scan_rest is_label_byte s from to g, ← split_while is_label_byte 46 dot_no_label (drop from s)) H.is
 
-    split_is : all is_label (on_first (take_while is_label_byte (drop from s)) (split_at 46 (drop to s))) ≡ is_host s
-    split_is = rw (scan_rest is_label_byte s from to scanned, ← split_while is_label_byte 46 dot_no_label (drop from s)) (H.is C)
-
-    -- the byte at which the scan stopped
-    stopped : (b : ℕ) (k : Bytes) → drop to s ≡ b ∷ k → is_label_byte b ≡ false
-    stopped b k e = while_stops is_label_byte (drop from s) b k (sym (scan_rest is_label_byte s from to scanned) ∙ e)
+  -- the byte at which the scan stopped
+  stopped : (b : ℕ) (k : Bytes) → drop to s ≡ b ∷ k → is_label_byte b ≡ false
+  stopped b k e = while_stops is_label_byte (drop from s) b k (sym (scan_rest is_label_byte s from to g) ∙ e)
 
   module _ {r : Bool} (t : r ≡ is_shaped (take (to - from) (drop from s))) where
-    shape_is : Classifies classes → is_label (take_while is_label_byte (drop from s)) ≡ r
-    shape_is C = shape_only (take_while is_label_byte (drop from s)) passing ∙ sym (t ∙ rw (scan_part is_label_byte s from to (scanned C)))
+    shape_is : is_label (take_while is_label_byte (drop from s)) ≡ r
+    shape_is = shape_only (take_while is_label_byte (drop from s)) passing ∙ sym (t ∙ rw (scan_part is_label_byte s from to g))
 
-    pub host_misshapen : r ≡ false → HostBy classes s false
-    host_misshapen w = record {
-      is = λ C.
-          sym (misshapen (take_while is_label_byte (drop from s)) (drop to s) passing (stopped C)
-          (sym (shape_only (take_while is_label_byte (drop from s)) passing) ∙ shape_is C ∙ w))
-          ∙ split_is C;
-    }
+    pub host_misshapen : r ≡ false → false ≡ is_host s
+    host_misshapen w =
+        sym (misshapen (take_while is_label_byte (drop from s)) (drop to s) passing stopped
+        (sym (shape_only (take_while is_label_byte (drop from s)) passing) ∙ shape_is ∙ w))
+        ∙ split_is
 
-    pub host_ends : r ≡ true → length s ≤ to → HostBy classes s true
+    pub host_ends : r ≡ true → length s ≤ to → true ≡ is_host s
     unfolding all
-    host_ends w h = record { is = λ C. sym (rw (drop_of_length-le s h, on_first_end 46 (take_while is_label_byte (drop from s)), shape_is C, w)) ∙ split_is C }
+    host_ends w h = sym (rw (drop_of_length-le s h, on_first_end 46 (take_while is_label_byte (drop from s)), shape_is, w)) ∙ split_is
 
     module _ (h : to < length s) where
-      pub host_other : r ≡ true → (get_or s to 0 ≡ 46 → ⊥) → HostBy classes s false
-      host_other w n = record {
-        is = λ C.
-            sym (rw (drop-cons s to 0 h) (bad_first (take_while is_label_byte (drop from s)) (drop (suc to) s) (get_or s to 0)
-            (stopped C (get_or s to 0) (drop (suc to) s) (drop-cons s to 0 h)) n))
-            ∙ split_is C;
-      }
+      pub host_other : r ≡ true → (get_or s to 0 ≡ 46 → ⊥) → false ≡ is_host s
+      host_other w n =
+          sym (rw (drop-cons s to 0 h) (bad_first (take_while is_label_byte (drop from s)) (drop (suc to) s) (get_or s to 0)
+          (stopped (get_or s to 0) (drop (suc to) s) (drop-cons s to 0 h)) n))
+          ∙ split_is
 
-      pub host_more : r ≡ true → get_or s to 0 ≡ 46 → HostFrom classes s (to + 1)
+      pub host_more : r ≡ true → get_or s to 0 ≡ 46 → HostFrom s (to + 1)
       unfolding all
       host_more w e = record {
         inside = omega (arith, host_part_end);
-        is = λ C. sym (rw (add-one, drop-cons s to 0 h, e, on_first_here 46 (take_while is_label_byte (drop from s)) (drop (suc to) s), shape_is C, w)) ∙ split_is C;
+        is = sym (rw (add-one, drop-cons s to 0 h, e, on_first_here 46 (take_while is_label_byte (drop from s)) (drop (suc to) s), shape_is, w)) ∙ split_is;
       }
-
-      pub host_less : length s - (to + 1) < length s - from
-      host_less = omega (arith, host_part_start)

@@ -1,33 +1,27 @@
 // Hosts and their labels.
 #![tactic(auto)]
 
+ghost use Rattle.std.specs.List.{list_all};
 ghost use Rattle.std.specs.Prelude.{◌≡◌, ◌+◌, ◌≤◌, length, drop};
-ghost use Rattle.ascii.specs.Ascii.{all, is_digit, last_of, same_no_case, take_while};
-ghost use Rattle.hosts.specs.Host.{labels, is_shaped, is_host, is_address};
-ghost use Rattle.hosts.specs.code.Lent.{has_label_class, HostBy};
+ghost use Rattle.ascii.specs.Ascii.{is_digit, last_of, take_while};
+ghost use Rattle.hosts.specs.Host.{labels, is_label_byte, is_shaped, is_host, is_address};
 ghost use Rattle.hosts.specs.code.Place.{Stands, is_boundary, ends_at_label};
 
-// A letter, digit or hyphen by the class table, which is lent, here and below.
-fn is_label_byte(classes: &[u8; 256], b: u8) -> bool
-    ensures { result ≡ has_label_class classes.now b }
+use ascii::classes::Classes;
+
+// A letter, digit or hyphen. The classes are lent, here and below.
+fn is_label_byte(classes: &Classes, b: u8) -> bool
+    ensures { result ≡ is_label_byte b }
 {
     // 0 letters, 1 digits, 2 the hyphen, 3 the dot
-    classes[b as usize] < 3
+    classes.class_of(b) < 3
 }
 
 // The place behind the letters, digits and hyphens at a place.
-fn label_end(classes: &[u8; 256], s: &[u8], from: usize) -> usize
-    ensures { result ≡ from + length (take_while (has_label_class classes.now) (drop from s.now)) }
+fn label_end(classes: &Classes, s: &[u8], from: usize) -> usize
+    ensures { result ≡ from + length (take_while is_label_byte (drop from s.now)) }
 {
-    let mut i = from;
-    while i < s.len() {
-        if is_label_byte(classes, s[i]) {
-            i += 1;
-        } else {
-            return i;
-        }
-    }
-    i
+    ascii::run_end(s, from, |b| is_label_byte(classes, b))
 }
 
 // 1 to 63 bytes, no hyphen first or last.
@@ -54,13 +48,13 @@ fn is_shaped(s: &[u8]) -> bool
 pub fn is_host(s: &[u8]) -> bool
     ensures { result ≡ is_host s.now }
 {
-    let classes = ascii::classes();
-    is_host_by(&classes, s)
+    is_host_by(&Classes::new(), s)
 }
 
-// The same by a class table that is lent.
-pub fn is_host_by(classes: &[u8; 256], s: &[u8]) -> bool
-    ensures { HostBy classes.now s.now result }
+// The same by classes that are lent. The loop goes on from where a label ends, which `split` does not tell, and the last label's end
+// is the text's.
+pub fn is_host_by(classes: &Classes, s: &[u8]) -> bool
+    ensures { result ≡ is_host s.now }
 {
     if s.len() < 1 {
         return false;
@@ -86,20 +80,11 @@ pub fn is_host_by(classes: &[u8; 256], s: &[u8]) -> bool
 }
 
 // How many labels a host has: one more than dots.
+#[tactic(auto, using(crate::proofs::Places::count_is))]
 pub fn label_count(h: &[u8]) -> usize
     ensures { result ≡ length (labels h.now) }
 {
-    let mut n = 0;
-    let mut i = 0;
-    while i < h.len() {
-        if h[i] == b'.' {
-            n += 1;
-            i += 1;
-        } else {
-            i += 1;
-        }
-    }
-    n + 1
+    h.iter().filter(|b| **b == b'.').count() + 1
 }
 
 // Where the labels behind the first n begin.
@@ -107,19 +92,16 @@ fn skip_labels(h: &[u8], n: usize) -> usize
     ensures { Stands (drop n (labels h.now)) h.now result }
 {
     let mut left = n;
-    let mut i = 0;
-    while i < h.len() {
+    for (i, b) in h.iter().enumerate() {
         if left == 0 {
             return i;
         }
-        if h[i] == b'.' {
+        if *b == b'.' {
+            // of the labels, so no index of the loop
             left -= 1;
-            i += 1;
-        } else {
-            i += 1;
         }
     }
-    i
+    h.len()
 }
 
 // Where the last n labels begin.
@@ -131,17 +113,9 @@ pub fn last_labels(h: &[u8], n: usize) -> usize
 }
 
 fn all_digits(s: &[u8]) -> bool
-    ensures { result ≡ all is_digit s.now }
+    ensures { result ≡ list_all is_digit s.now }
 {
-    let mut i = 0;
-    while i < s.len() {
-        if ascii::is_digit(s[i]) {
-            i += 1;
-        } else {
-            return false;
-        }
-    }
-    true
+    s.iter().all(|b| ascii::is_digit(*b))
 }
 
 // The last label is all digits.
@@ -166,23 +140,6 @@ fn is_boundary(h: &[u8], k: usize) -> bool
     false
 }
 
-// The rest of h at k is w without regard to case, compared from the end.
-fn is_rest(h: &[u8], k: usize, w: &[u8]) -> bool
-    requires { k + length w.now ≡ length h.now }
-    ensures { result ≡ same_no_case (drop k h.now) w.now }
-{
-    let mut i = w.len();
-    while 0 < i {
-        let j = i - 1;
-        if ascii::alike(h[k + j], w[j]) {
-            i = j;
-        } else {
-            return false;
-        }
-    }
-    true
-}
-
 // w is an end of h that begins at a label, without regard to case.
 pub fn ends_at_label(h: &[u8], w: &[u8]) -> bool
     ensures { result ≡ ends_at_label w.now h.now }
@@ -192,7 +149,7 @@ pub fn ends_at_label(h: &[u8], w: &[u8]) -> bool
     }
     let k = h.len() - w.len();
     if is_boundary(h, k) {
-        is_rest(h, k, w)
+        ascii::equal_no_case(&h[k..], w)
     } else {
         false
     }

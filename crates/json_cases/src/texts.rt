@@ -1,6 +1,4 @@
 // Texts built in a buffer of 1,024 bytes. What does not fit is left out.
-use json_text::Progress;
-
 // One byte at a place; the place behind it.
 pub fn put(buf: &mut [u8], at: usize, b: u8) -> usize {
     if at < buf.len() {
@@ -69,7 +67,7 @@ pub fn decodes_to(buf: &[u8], n: usize, content: &[u8], m: usize) -> bool {
         return false;
     }
     let mut space = [0u8; 512];
-    let Progress::On(d, _) = json_text::decoding::decode_string(&mut space, &buf[0..n], 0) else {
+    let Some((d, _)) = json_text::decoding::decode_string(&mut space, &buf[0..n], 0) else {
         return false;
     };
     if m > 512 {

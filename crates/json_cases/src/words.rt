@@ -1,41 +1,11 @@
 // Small texts, readable and not, with a `|` between one and the next.
 use super::tally::{Tally, none, tell};
 
-// The place of the next `|`, or the end.
-fn piece_end(s: &[u8], from: usize) -> usize {
-    let mut i = from;
-    while i < s.len() {
-        if s[i] == b'|' {
-            return i;
-        }
-        i += 1;
-    }
-    i
-}
-
-fn piece_is_readable(s: &[u8], from: usize, to: usize) -> bool {
-    if from <= to {
-        if to <= s.len() {
-            return json_values::is_readable(&s[from..to]);
-        }
-    }
-    false
-}
-
 // Each text is readable, or each is not.
 fn each(t: Tally, s: &[u8], expected: bool) -> Tally {
     let mut u = t;
-    let mut from = 0;
-    while from <= s.len() {
-        let to = piece_end(s, from);
-        u = tell(u, piece_is_readable(s, from, to) == expected);
-        if to < from {
-            return u;
-        }
-        if to >= s.len() {
-            return u;
-        }
-        from = to + 1;
+    for piece in s.split(|b| *b == b'|') {
+        u = tell(u, json_values::is_readable(piece) == expected);
     }
     u
 }

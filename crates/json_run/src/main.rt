@@ -3,7 +3,6 @@
 #![tactic(auto)]
 
 use full_reads::read_full;
-use json_text::Progress;
 use std::io;
 use std::io::Read;
 
@@ -40,14 +39,8 @@ fn put_byte(line: &mut [u8], at: usize, b: u8) -> usize {
 
 fn put_hex(line: &mut [u8], at: usize, bytes: &[u8; 512], n: usize) -> usize {
     let mut to = at;
-    let mut i = 0;
-    while i < n {
-        if i < 512 {
-            to = put_byte(line, to, bytes[i]);
-            i += 1;
-        } else {
-            return to;
-        }
+    for b in ascii::prefix(bytes, n) {
+        to = put_byte(line, to, *b);
     }
     to
 }
@@ -75,12 +68,12 @@ fn answer(rt: &impl Print, s: &[u8]) -> io::Result<bool> {
         return Ok(true);
     }
     let i = json_text::skip_blanks(s, 0);
-    if json_text::byte_at(s, i) != json_text::QUOTATION_MARK {
+    if json_text::byte_at(s, i) != Some(b'"') {
         rt.write_all(b"readable\n")?;
         return Ok(true);
     }
     let mut bytes = [0u8; 512];
-    let Progress::On(n, _) = json_text::decoding::decode_string(&mut bytes, s, i) else {
+    let Some((n, _)) = json_text::decoding::decode_string(&mut bytes, s, i) else {
         return Ok(false);
     };
     let mut space = [0u8; 1040];
@@ -98,10 +91,6 @@ fn answer_first(rt: &impl Print, buf: &[u8], n: usize) -> io::Result<bool> {
     Ok(false)
 }
 
-fn wide(x: u8) -> usize {
-    x as usize
-}
-
 fn read_some(reader: &mut impl Read, buf: &mut [u8], n: usize) -> io::Result<usize> {
     if n <= buf.len() {
         return read_full(reader, &mut buf[0..n]);
@@ -115,22 +104,13 @@ fn one(rt: &impl Print, reader: &mut impl Read) -> io::Result<bool> {
     if read_full(reader, &mut length)? < 2 {
         return Ok(false);
     }
-    let n = sum(wide(length[0]), wide(length[1]));
+    let n = u16::from_be_bytes(length) as usize;
     let mut space = [0u8; 4096];
     let buf: &mut [u8] = &mut space;
     if read_some(reader, buf, n)? != n {
         return Ok(false);
     }
     answer_first(rt, buf, n)
-}
-
-fn sum(high: usize, low: usize) -> usize {
-    if high < 256 {
-        if low < 256 {
-            return high * 256 + low;
-        }
-    }
-    0
 }
 
 fn main(rt: HostRuntime) -> io::Result<()> {

@@ -1,41 +1,35 @@
 -- Decoding a string into a lent array.
-use Rattle.std.specs.Prelude.{if◌then◌else◌}
+use Rattle.std.specs.Prelude.{if◌then◌else◌, Option, None, Some}
 use mathlib.Core.Path.{◌≡◌, refl, ap, sym, ◌∙◌}
-use mathlib.Core.Bool.{Bool, true, false}
+use mathlib.Core.Bool.{Bool, true, false, not}
 use mathlib.Core.List.{[], ◌∷◌, ◌++◌, append_assoc, append-nil}
-use mathlib.Core.Option.{Option, none, some}
 use Prim.Native.Nat.{ℕ, suc, ◌+◌, ◌-◌, ◌/◌, ◌%◌, ◌≤◌, ◌<◌}
 use native.Mathlib.Numerals.{add-one}
 use native.Mathlib.Omega.{arith}
 use borrow.Author.Tests.{le-leb, lt-leb, lt-ltb, le-ltb, ltb-false, leb-true, leb-false}
-use lib.Dec.{leb, ltb}
-use lib.ListN.{length, get_or, take, drop, set, length-set, length-append, length-take, length-drop, drop_of_length-le}
-use lib.Seq.{drop-cons, take-suc-set, length-take-le, take-nil}
+use lib.Dec.{eqb, leb, ltb}
+use Rattle.std.specs.Option.{option_eq}
+use lib.ListN.{length, get_or, take, drop, set, length-set, length-append, length-take, length-drop}
+use lib.Seq.{take_all, take-suc, take-suc-set, length-take-le}
 use Rattle.ascii.specs.Ascii.{Bytes, same}
 use Rattle.json_text.specs.Reader.{Read, got, bad, Reader, more, mapped, as_written, verbatim}
 use Rattle.json_text.specs.Utf8.{encode_utf8}
 use Rattle.json_text.specs.Lexical.{unescaped, escaped, read_char, read_chars, read_string}
 use Rattle.json_text.specs.code.Places.{Peeked, read_at, place_of, point_of, fit, content_of, push, push_read, held, is_text, Puts, PutsRead, is_on, is_stuck}
-use Rattle.json_text.specs.declared.Progress.{Progress}
-use Rattle.json_text.specs.declared.Progress.TheVariants.{On, Stuck}
-use Rattle.json_text.specs.declared.Next.{Next}
-use Rattle.json_text.specs.declared.Next.TheVariants.{At, Bad}
-use Rattle.json_text.specs.declared.Point.{Point}
-use Rattle.json_text.specs.declared.Point.TheVariants.{Code, Wrong}
-use Rattle.json_text.proofs.Steps.{on, then_bad, one_yes, one_no, counted_at, place_mapped, found, missed, is_one, not_one}
+use Rattle.json_text.proofs.Steps.{pairs, this, is_this, not_this, isnt_this, isnt_not, on, then_bad, one_yes, one_no, counted_at, place_mapped, found, missed}
 use Rattle.json_text.proofs.Chars.{char_wrong, char_code, char_raw, char_moves, chars_end, chars_stop, chars_step}
 
 -- ---- what is held
 
-empty_held : (bytes : Bytes) → held bytes 0 ≡ some []
+empty_held : (bytes : Bytes) → held bytes 0 ≡ Some []
 unfolding held
 empty_held bytes = refl
 
-fit_is : (t : Bytes) → length t ≤ 512 → fit t ≡ some t
+fit_is : (t : Bytes) → length t ≤ 512 → fit t ≡ Some t
 unfolding fit
 fit_is t h = rw (le-leb (length t) 512 h)
 
-fit_not : (t : Bytes) → 512 < length t → fit t ≡ none
+fit_not : (t : Bytes) → 512 < length t → fit t ≡ None
 unfolding fit
 fit_not t h = rw (lt-leb (length t) 512 h)
 
@@ -43,14 +37,14 @@ push_nil : (bytes : Bytes) (n : ℕ) → push (held bytes n) [] ≡ held bytes n
 unfolding held
 push_nil bytes n = go (ltb 512 n) refl
   where
-    go : (u : Bool) → ltb 512 n ≡ u → push (if u then none else some (take n bytes)) [] ≡ (if u then none else some (take n bytes))
+    go : (u : Bool) → ltb 512 n ≡ u → push (if u then None else Some (take n bytes)) [] ≡ (if u then None else Some (take n bytes))
     go true e = unfold push in refl
     go false e = unfold push in rw append-nil (fit_is (take n bytes) (simp length-take (omega (arith, ltb-false 512 n e))))
 
 push_push : (h : Option Bytes) (x y : Bytes) → push (push h x) y ≡ push h (x ++ y)
 unfolding push
-push_push none x y = refl
-push_push (some t) x y = go (leb (length (t ++ x)) 512) refl
+push_push None x y = refl
+push_push (Some t) x y = go (leb (length (t ++ x)) 512) refl
   where
     go : (u : Bool) → leb (length (t ++ x)) 512 ≡ u → push (fit (t ++ x)) y ≡ fit (t ++ (x ++ y))
     go true e = rw (fit_is (t ++ x) (leb-true (length (t ++ x)) 512 e), append_assoc)
@@ -61,7 +55,7 @@ push_push (some t) x y = go (leb (length (t ++ x)) 512) refl
 -- ---- one byte more
 
 module _ (bytes : Bytes) (n b : ℕ) where
-  no_room : (u : Bool) → 512 ≤ n → length bytes ≡ 512 → ltb 512 n ≡ u → push (if u then none else some (take n bytes)) (b ∷ []) ≡ none
+  no_room : (u : Bool) → 512 ≤ n → length bytes ≡ 512 → ltb 512 n ≡ u → push (if u then None else Some (take n bytes)) (b ∷ []) ≡ None
   unfolding push
   no_room true k w f = refl
   no_room false k w f =
@@ -91,25 +85,19 @@ puts_then {before} {x} {y} {n} P Q = record { kept = Q.kept ∙ P.kept; is = λ 
 
 -- ---- a part more
 
--- where the part from i on is put, the whole part is
-pub record Part (s : Bytes) (from to : ℕ) (before : Bytes) (n : ℕ) (out : Bytes) (m i : ℕ) : Type 0 where
-  pub is : (after : Bytes) (r : ℕ) → Puts out m (take (to - i) (drop i s)) after r → Puts before n (take (to - from) (drop from s)) after r
+-- the first i bytes of the part x are put
+pub record Part (x before : Bytes) (n : ℕ) (out : Bytes) (m i : ℕ) : Type 0 where
+  pub is : Puts before n (take i x) out m
 
-pub part_starts : (s : Bytes) (from to : ℕ) (out : Bytes) (n : ℕ) → Part s from to out n out n from
-part_starts s from to out n = record { is = λ after r P. P }
+pub part_starts : (x out : Bytes) (n : ℕ) → Part x out n out n 0
+part_starts x out n = record { is = puts_none out n }
 
-module _ {s : Bytes} {from to : ℕ} {before : Bytes} {n : ℕ} {out : Bytes} {m i : ℕ} (P : Part s from to before n out m i) where
-  pub part_end : to ≤ i → Puts before n (take (to - from) (drop from s)) out m
-  part_end h = let z : to - i ≡ 0 = omega arith in P.is out m (rw z (puts_none out m))
+module _ {x before : Bytes} {n : ℕ} {out : Bytes} {m i : ℕ} (P : Part x before n out m i) where
+  pub part_end : {y : Bytes} → length x ≤ i → x ≡ y → Puts before n y out m
+  part_end h e = rw (take_all i x h, e) at P.is
 
-  pub part_past : length s ≤ i → Puts before n (take (to - from) (drop from s)) out m
-  part_past h = P.is out m (rw (drop_of_length-le s h, take-nil) (puts_none out m))
-
-  pub part_more : {o : Bytes} {k : ℕ} → i < to → i < length s → Puts out m (get_or s i 0 ∷ []) o k → Part s from to before n o k (i + 1)
-  part_more {o} {k} h l Q =
-      let u : to - i ≡ suc (to - (i + 1)) = omega arith in
-      let z : take (to - i) (drop i s) ≡ get_or s i 0 ∷ take (to - (i + 1)) (drop (i + 1) s) = rw (u, drop-cons s i 0 l, add-one i) in
-      record { is = λ after r R. P.is after r (rw z (puts_then Q R)) }
+  pub part_more : {o : Bytes} {k : ℕ} → i < length x → Puts out m (get_or x i 0 ∷ []) o k → Part x before n o k (i + 1)
+  part_more h Q = record { is = rw (add-one i, take-suc x i 0 h) (puts_then P.is Q) }
 
 -- ---- a code point more
 
@@ -155,20 +143,20 @@ pub verbatim_bad : {A : Type 0} (p : Reader A) (s : Bytes) (i : ℕ) → read_at
 unfolding read_at verbatim
 verbatim_bad p s i e = written_bad i (drop i s) (p (drop i s)) e
 
-module _ (s : Bytes) (i : ℕ) {before out : Bytes} {n b : ℕ} (g : Peeked s i b) where
-  module _ (h : b ≡ 92) {q : Point} (e : q ≡ point_of (read_at escaped s (i + 1))) where
-    pub held_wrong : q ≡ Wrong → PutsRead before n (read_at read_char s i) out Stuck
-    held_wrong k = is_stuck (char_wrong g h e k)
+module _ (s : Bytes) (i : ℕ) {before out : Bytes} {n : ℕ} {b : Option ℕ} {u : Bool} (g : Peeked s i b) (t : u ≡ option_eq eqb b (Some 92)) where
+  module _ (h : u ≡ true) {q : Option (ℕ × ℕ)} (e : q ≡ point_of (read_at escaped s (i + 1))) where
+    pub held_wrong : q ≡ None → PutsRead before n (read_at read_char s i) out None
+    held_wrong k = is_stuck (char_wrong g (this b 92 t h) e k)
 
-    pub held_code : {c m j : ℕ} → q ≡ Code c j → Puts before n (encode_utf8 c) out m → PutsRead before n (read_at read_char s i) out (On m j)
-    held_code k P = is_on (char_code g h e k) P
+    pub held_code : {c m j : ℕ} → q ≡ Some (c, j) → Puts before n (encode_utf8 c) out m → PutsRead before n (read_at read_char s i) out (Some (m, j))
+    held_code k P = is_on (char_code g (this b 92 t h) e k) P
 
-  module _ (w : b ≡ 92 → ⊥) {q : Next} (e : q ≡ place_of (read_at unescaped s i)) where
-    pub held_no : q ≡ Bad → PutsRead before n (read_at read_char s i) out Stuck
-    held_no k = is_stuck (char_raw g w ∙ verbatim_bad unescaped s i (missed _ e k))
+  module _ (w : u ≡ false) {q : Option ℕ} (e : q ≡ place_of (read_at unescaped s i)) where
+    pub held_no : q ≡ None → PutsRead before n (read_at read_char s i) out None
+    held_no k = is_stuck (char_raw g (not_this b 92 (omega arith) t w) ∙ verbatim_bad unescaped s i (missed _ e k))
 
-    pub held_plain : {m j : ℕ} → q ≡ At j → Puts before n (take (j - i) (drop i s)) out m → PutsRead before n (read_at read_char s i) out (On m j)
-    held_plain k P = is_on (char_raw g w ∙ verbatim_at unescaped s i (found _ e k).1) P
+    pub held_plain : {m j : ℕ} → q ≡ Some j → Puts before n (take (j - i) (drop i s)) out m → PutsRead before n (read_at read_char s i) out (Some (m, j))
+    held_plain k P = is_on (char_raw g (not_this b 92 (omega arith) t w) ∙ verbatim_at unescaped s i (found _ e k).1) P
 
 -- ---- a whole string
 
@@ -177,7 +165,7 @@ pub record Decodes (s : Bytes) (from : ℕ) (before out : Bytes) (n i : ℕ) : T
   pub kept : length out ≡ length before
   pub fuel : ℕ
   pub enough : length s - i ≤ fuel
-  pub held_is : length before ≡ 512 → push_read (held out n) (read_at (read_chars (suc fuel)) s i) ≡ push_read (some []) (read_at read_string s from)
+  pub held_is : length before ≡ 512 → push_read (held out n) (read_at (read_chars (suc fuel)) s i) ≡ push_read (Some []) (read_at read_string s from)
   pub end_is : place_of (read_at (read_chars (suc fuel)) s i) ≡ place_of (read_at read_string s from)
 
 push_on : (h : Option Bytes) (c : Bytes) (r : Read Bytes) → push_read h (mapped (λ cs. c ++ cs) r) ≡ push_read (push h c) r
@@ -185,56 +173,57 @@ unfolding push_read mapped
 push_on h c (got cs n) = sym (push_push h c cs)
 push_on h c bad = refl
 
-module _ {s : Bytes} {from b : ℕ} (g : Peeked s from b) where
-  pub decode_wrong : (before out : Bytes) → (b ≡ 34 → ⊥) → PutsRead before 0 (read_at read_string s from) out Stuck
+module _ {s : Bytes} {from : ℕ} {b : Option ℕ} {u : Bool} (g : Peeked s from b) (t : u ≡ not (option_eq eqb b (Some 34))) where
+  pub decode_wrong : (before out : Bytes) → u ≡ true → PutsRead before 0 (read_at read_string s from) out None
   unfolding read_string
-  decode_wrong before out h = is_stuck (then_bad _ _ _ _ (one_no g _ (not_one b 34 h)))
+  decode_wrong before out h = is_stuck (then_bad _ _ _ _ (one_no g _ (isnt_this b 34 (omega arith) t h)))
 
-  pub decode_starts : (out : Bytes) → b ≡ 34 → Decodes s from out out 0 (from + 1)
+  pub decode_starts : (out : Bytes) → u ≡ false → Decodes s from out out 0 (from + 1)
   unfolding read_string
   decode_starts out h =
       let z : read_at read_string s from ≡ read_at (read_chars (suc (length (drop (from + 1) s)))) s (from + 1) =
-      on _ _ _ _ (one_yes g _ (is_one b 34 h)) ∙ counted_at read_chars s (from + 1) in
+      on _ _ _ _ (one_yes g _ (isnt_not b 34 t h)) ∙ counted_at read_chars s (from + 1) in
       record { kept = refl; fuel = length (drop (from + 1) s); enough = simp length-drop (omega arith); held_is = λ w. rw (empty_held out, z); end_is = rw z }
 
 -- what is held at the end is the string
-whole_read : (before out : Bytes) (n j : ℕ) (r : Read Bytes) → length out ≡ length before → (length before ≡ 512 → held out n ≡ push_read (some []) r) → At j ≡ place_of r → PutsRead before 0 r out (On n j)
+whole_read : (before out : Bytes) (n j : ℕ) (r : Read Bytes) → length out ≡ length before → (length before ≡ 512 → held out n ≡ push_read (Some []) r) → Some j ≡ place_of r → PutsRead before 0 r out (Some (n, j))
 unfolding push_read place_of
 whole_read before out n j (got c k) l h e =
     let z : j ≡ k = cc in
     rw z (is_on refl (record { kept = l; is = λ w. h w ∙ ap (λ (x : Option Bytes). push x c) (sym (empty_held before)) }))
 whole_read before out n j bad l h e = let z : ◌≡◌ {A = ℕ} 0 1 = cc in absurd (omega arith)
 
-module _ {s : Bytes} {from : ℕ} {before out : Bytes} {n i b : ℕ} (L : Decodes s from before out n i) (g : Peeked s i b) where
-  pub decode_end : b ≡ 34 → PutsRead before 0 (read_at read_string s from) out (On n (i + 1))
+module _ {s : Bytes} {from : ℕ} {before out : Bytes} {n i : ℕ} {b : Option ℕ} {u : Bool} (L : Decodes s from before out n i) (g : Peeked s i b) (t : u ≡ option_eq eqb b (Some 34)) where
+  pub decode_end : u ≡ true → PutsRead before 0 (read_at read_string s from) out (Some (n, i + 1))
   decode_end h =
       whole_read before out n (i + 1) (read_at read_string s from) L.kept
-      (λ w. sym (push_nil out n) ∙ unfold push_read in (rw (chars_end g L.fuel h) at (L.held_is w)))
-      (unfold place_of in (rw (chars_end g L.fuel h) at L.end_is))
+      (λ w. sym (push_nil out n) ∙ unfold push_read in (rw (chars_end g L.fuel (is_this b 34 t h)) at (L.held_is w)))
+      (unfold place_of in (rw (chars_end g L.fuel (is_this b 34 t h)) at L.end_is))
 
-  module _ {o : Bytes} {r : Progress} (h : b ≡ 34 → ⊥) (H : PutsRead out n (read_at read_char s i) o r) where
-    no_char : r ≡ Stuck → read_at read_char s i ≡ bad
+  module _ {o : Bytes} {r : Option (ℕ × ℕ)} (h : u ≡ false) (H : PutsRead out n (read_at read_char s i) o r) where
+    no_char : r ≡ None → read_at read_char s i ≡ bad
     no_char k = go H k
       where
-        go : {r : Progress} → PutsRead out n (read_at read_char s i) o r → r ≡ Stuck → read_at read_char s i ≡ bad
+        go : {r : Option (ℕ × ℕ)} → PutsRead out n (read_at read_char s i) o r → r ≡ None → read_at read_char s i ≡ bad
         go (is_stuck e) k = e
         go (is_on e f) k = let z : ◌≡◌ {A = ℕ} 0 1 = cc in absurd (omega arith)
 
-    pub decode_bad : (after : Bytes) → r ≡ Stuck → PutsRead before 0 (read_at read_string s from) after Stuck
+    pub decode_bad : (after : Bytes) → r ≡ None → PutsRead before 0 (read_at read_string s from) after None
     decode_bad after k =
-        let e : Bad ≡ place_of (read_at read_string s from) = unfold place_of in (rw (chars_stop g L.fuel h (no_char k)) at L.end_is) in
+        let e : None ≡ place_of (read_at read_string s from) = unfold place_of in (rw (chars_stop g L.fuel (not_this b 34 (omega arith) t h) (no_char k)) at L.end_is) in
         is_stuck (missed _ e refl)
 
-    module _ {m j : ℕ} (k : r ≡ On m j) where
+    module _ {m j : ℕ} (k : r ≡ Some (m, j)) where
       char_here : (c : Bytes) × (read_at read_char s i ≡ got c j) × Puts out n c o m
       char_here = go H k
         where
-          go : {r : Progress} → PutsRead out n (read_at read_char s i) o r → r ≡ On m j
+          go : {r : Option (ℕ × ℕ)} → PutsRead out n (read_at read_char s i) o r → r ≡ Some (m, j)
               → (c : Bytes) × (read_at read_char s i ≡ got c j) × Puts out n c o m
           go (is_stuck e) k = let z : ◌≡◌ {A = ℕ} 0 1 = cc in absurd (omega arith)
           go (is_on {c} {m = p} {j = q} e f) k =
-              let y : p ≡ m = cc in
-              let z : q ≡ j = cc in
+              let x = pairs k in
+              let y : p ≡ m = x.0 in
+              let z : q ≡ j = x.1 in
               (c, rw z at e, rw y at f)
 
       pub decode_less : length s - j < length s - i
@@ -246,29 +235,29 @@ module _ {s : Bytes} {from : ℕ} {before out : Bytes} {n i b : ℕ} (L : Decode
           let l : length s - j < length s - i = decode_less in
           let p : L.fuel ≡ suc (L.fuel - 1) = omega (arith, L.enough) in
           let R : Read Bytes = read_at (read_chars L.fuel) s j in
-          let y : length before ≡ 512 → push_read (held o m) R ≡ push_read (some []) (read_at read_string s from) =
-          λ w. rw (f.2.is (L.kept ∙ w)) (sym (push_on (held out n) f.0 R) ∙ rw (chars_step g L.fuel h f.1) at (L.held_is w)) in
-          let z : place_of R ≡ place_of (read_at read_string s from) = sym (place_mapped (λ cs. f.0 ++ cs) R) ∙ rw (chars_step g L.fuel h f.1) at L.end_is in
+          let y : length before ≡ 512 → push_read (held o m) R ≡ push_read (Some []) (read_at read_string s from) =
+          λ w. rw (f.2.is (L.kept ∙ w)) (sym (push_on (held out n) f.0 R) ∙ rw (chars_step g L.fuel (not_this b 34 (omega arith) t h) f.1) at (L.held_is w)) in
+          let z : place_of R ≡ place_of (read_at read_string s from) = sym (place_mapped (λ cs. f.0 ++ cs) R) ∙ rw (chars_step g L.fuel (not_this b 34 (omega arith) t h) f.1) at L.end_is in
           record { kept = f.2.kept ∙ L.kept; fuel = L.fuel - 1; enough = omega (arith, L.enough); held_is = rw (← p) y; end_is = rw (← p) z }
 
 -- ---- names
 
-module _ (s : Bytes) (from : ℕ) (name : Bytes) {before after : Bytes} {r : Progress} (H : PutsRead before 0 (read_at read_string s from) after r) where
-  pub name_wrong : r ≡ Stuck → false ≡ is_text (content_of (read_at read_string s from)) name
+module _ (s : Bytes) (from : ℕ) (name : Bytes) {before after : Bytes} {r : Option (ℕ × ℕ)} (H : PutsRead before 0 (read_at read_string s from) after r) where
+  pub name_wrong : r ≡ None → false ≡ is_text (content_of (read_at read_string s from)) name
   name_wrong k = go H k
     where
-      go : {r : Progress} → PutsRead before 0 (read_at read_string s from) after r → r ≡ Stuck → false ≡ is_text (content_of (read_at read_string s from)) name
+      go : {r : Option (ℕ × ℕ)} → PutsRead before 0 (read_at read_string s from) after r → r ≡ None → false ≡ is_text (content_of (read_at read_string s from)) name
       go (is_stuck e) k = unfold content_of is_text in (rw e)
       go (is_on e f) k = let z : ◌≡◌ {A = ℕ} 0 1 = cc in absurd (omega arith)
 
-  module _ {n j : ℕ} (k : r ≡ On n j) (w : length before ≡ 512) where
+  module _ {n j : ℕ} (k : r ≡ Some (n, j)) (w : length before ≡ 512) where
     name_held : is_text (content_of (read_at read_string s from)) name ≡ is_text (held after n) name
     name_held = go H k
       where
-        go : {r : Progress} → PutsRead before 0 (read_at read_string s from) after r → r ≡ On n j → is_text (content_of (read_at read_string s from)) name ≡ is_text (held after n) name
+        go : {r : Option (ℕ × ℕ)} → PutsRead before 0 (read_at read_string s from) after r → r ≡ Some (n, j) → is_text (content_of (read_at read_string s from)) name ≡ is_text (held after n) name
         go (is_stuck e) k = let z : ◌≡◌ {A = ℕ} 0 1 = cc in absurd (omega arith)
         go (is_on {c} {m} e f) k =
-            let y : m ≡ n = cc in
+            let y : m ≡ n = (pairs k).0 in
             let h : held after n ≡ push (held before 0) c = rw y at (f.is w) in
             rw (e, h, empty_held before) (unfold content_of push in refl)
 

@@ -1,54 +1,41 @@
 -- The sets of laws that answer needs, for `search number_laws` and so on.
-use native.Mathlib.Omega.{arith}
 use borrow.Author.Rules.{rules}
-use Rattle.json_text.proofs.Steps.{peeked_at, peeked_past, fits_next, fits_either, fits_below}
+use Rattle.json_text.proofs.Steps.{fits_next, took, left}
 use Rattle.json_text.proofs.Scan.{scan_end, scan_stop, scan_more}
-use Rattle.json_text.proofs.Words.{word_starts, word_end, word_bad, word_more}
-use Rattle.json_text.proofs.Bytes.{blank_space, blank_tab, blank_line, blank_return}
-use Rattle.json_text.proofs.NumberSteps.{digit_below, digit_at_most, digits_low, digits_high, digits_some, int_zero, int_low, int_high, int_some, frac_none, frac_bad, frac_some, sign_some, sign_none, minus_some, minus_none, exp_none, exp_bad, exp_some, number_bad, number_some}
-use Rattle.json_text.proofs.Plain.{seq_bad, seq_on, range_low, range_in, range_high, wide_low, wide_c2, wide_e0, wide_e1, wide_ed, wide_ee, wide_f0, wide_f1, wide_f4, wide_high, plain_low, plain_quote, plain_backslash, plain_20, plain_23, plain_5d, plain_wide}
-use Rattle.json_text.proofs.EscapeSteps.{hex_low, hex_decimal, hex_between, hex_upper, hex_middle, hex_lower, hex_high, digit_past, digit_in, fits_digit, hex4_first, hex4_second, hex4_third, hex4_fourth, hex4_all, code_bad, code_low, code_high, code_lone, pair_bare, pair_bad, pair_under, pair_above, pair_is, escape_quote, escape_backslash, escape_slash, escape_b, escape_f, escape_n, escape_r, escape_t, escape_u, escape_other}
-use Rattle.json_text.proofs.Chars.{char_bad, char_at, char_two, char_plain, spells_starts, spells_end, spells_bad, spells_less, spells_more, string_bad, string_some}
-use Rattle.json_text.proofs.Holding.{put_full, put_one, part_starts, part_end, part_past, part_more, code_one, code_two, code_three, code_four, held_wrong, held_code, held_no, held_plain, decode_wrong, decode_starts, decode_end, decode_bad, decode_less, decode_more, name_wrong, name_over, name_told}
-use Rattle.json_text.proofs.PlainSteps.{ascii_low, ascii_high, ascii_quote, ascii_other, ascii_none, ascii_string, plain_none, plain_starts, plain_found, plain_more}
+use Rattle.json_text.proofs.Words.{word_fits, word_is, word_not}
+use Rattle.json_text.proofs.NumberSteps.{digits_gone, digits_low, digits_high, digits_some, int_gone, int_zero, int_low, int_high, int_some, frac_none, frac_some, sign_gone, sign_some, sign_none, minus_some, minus_none, exp_gone, exp_none, exp_some, number_bad, number_some}
+use Rattle.json_text.proofs.Plain.{seq_bad, seq_on, range_gone, range_low, range_in, range_high, wide_gone, wide_low, wide_c2, wide_e0, wide_e1, wide_ed, wide_ee, wide_f0, wide_f1, wide_f4, wide_high, plain_gone, plain_low, plain_quote, plain_backslash, plain_20, plain_23, plain_5d, plain_wide}
+use Rattle.json_text.proofs.EscapeSteps.{digit_past, digit_in, fits_digit, hex4_first, hex4_second, hex4_third, hex4_fourth, hex4_all, code_bad, code_low, code_high, code_lone, pair_bare, pair_bad, pair_under, pair_above, pair_is, escape_quote, escape_backslash, escape_slash, escape_b, escape_f, escape_n, escape_r, escape_t, escape_u, escape_none, escape_other}
+use Rattle.json_text.proofs.Chars.{char_bad, char_at, char_two, char_other, spells_starts, spells_end, spells_bad, spells_less, spells_more, string_bad, string_some}
+use Rattle.json_text.proofs.Holding.{put_full, put_one, part_starts, part_end, part_more, code_one, code_two, code_three, code_four, held_wrong, held_code, held_no, held_plain, decode_wrong, decode_starts, decode_end, decode_bad, decode_less, decode_more, name_wrong, name_over, name_told}
+use Rattle.json_text.proofs.PlainSteps.{ascii_none, ascii_string, plain_none, plain_found}
 
 -- for the cheap needs: sums that fit, places that are there
-pub ruleset fits = (fits_next, fits_either, fits_below, rules)
+pub ruleset fits = (fits_next, took, left, rules)
 
 pub ruleset hex_fits = (fits_digit, fits)
 
--- where the others are too many (skip_word)
-pub ruleset next_fits = (fits_next, rules)
+pub ruleset blank_laws = (scan_end, scan_stop, scan_more, word_fits, word_is, word_not, fits)
 
-pub ruleset blank_laws = (scan_end, scan_stop, scan_more, word_starts, word_end, word_bad, word_more, blank_space, blank_tab, blank_line, blank_return, peeked_at, peeked_past, fits)
+pub ruleset number_laws = (digits_gone, digits_low, digits_high, digits_some, int_gone, int_zero, int_low, int_high, int_some, frac_none, frac_some, sign_gone, sign_some, sign_none, minus_some, minus_none, exp_gone, exp_none, exp_some, number_bad, number_some, fits)
 
-pub ruleset number_laws = (scan_end, scan_stop, scan_more, digit_below, digit_at_most, digits_low, digits_high, digits_some, int_zero, int_low, int_high, int_some, frac_none, frac_bad, frac_some, sign_some, sign_none, minus_some, minus_none, exp_none, exp_bad, exp_some, number_bad, number_some, fits)
+pub ruleset unescaped_laws = (seq_bad, seq_on, range_gone, range_low, range_in, range_high, wide_gone, wide_low, wide_c2, wide_e0, wide_e1, wide_ed, wide_ee, wide_f0, wide_f1, wide_f4, wide_high, plain_gone, plain_low, plain_quote, plain_backslash, plain_20, plain_23, plain_5d, plain_wide, fits)
 
-pub ruleset unescaped_laws = (seq_bad, seq_on, range_low, range_in, range_high, wide_low, wide_c2, wide_e0, wide_e1, wide_ed, wide_ee, wide_f0, wide_f1, wide_f4, wide_high, plain_low, plain_quote, plain_backslash, plain_20, plain_23, plain_5d, plain_wide, fits)
+pub ruleset escape_laws = (hex4_first, hex4_second, hex4_third, hex4_fourth, hex4_all, code_bad, code_low, code_high, code_lone, pair_bare, pair_bad, pair_under, pair_above, pair_is, escape_quote, escape_backslash, escape_slash, escape_b, escape_f, escape_n, escape_r, escape_t, escape_u, escape_none, escape_other, hex_fits)
 
-pub ruleset escape_laws = (hex_low, hex_decimal, hex_between, hex_upper, hex_middle, hex_lower, hex_high, hex4_first, hex4_second, hex4_third, hex4_fourth, hex4_all, code_bad, code_low, code_high, code_lone, pair_bare, pair_bad, pair_under, pair_above, pair_is, escape_quote, escape_backslash, escape_slash, escape_b, escape_f, escape_n, escape_r, escape_t, escape_u, escape_other, hex_fits)
+pub ruleset hex_at_laws = (digit_past, digit_in, took, left)
 
-pub ruleset hex_at_laws = (digit_past, digit_in)
+pub ruleset ascii_laws = (ascii_string, ascii_none, fits)
 
-pub ruleset ascii_laws = (scan_end, scan_stop, scan_more, ascii_low, ascii_high, ascii_quote, ascii_other, ascii_string, ascii_none, fits)
+pub ruleset string_laws = (char_bad, char_at, char_two, char_other, spells_starts, spells_end, spells_bad, spells_less, spells_more, string_bad, string_some, fits)
 
-pub ruleset string_laws = (char_bad, char_at, char_two, char_plain, spells_starts, spells_end, spells_bad, spells_less, spells_more, string_bad, string_some, fits)
+pub ruleset plain_laws = (plain_none, plain_found, fits)
 
-pub ruleset plain_laws = (plain_none, plain_starts, plain_found, plain_more, rules)
-
-pub ruleset decoding_laws = (put_full, put_one, part_starts, part_end, part_past, part_more, code_one, code_two, code_three, code_four, held_wrong, held_code, held_no, held_plain, decode_wrong, decode_starts, decode_end, decode_bad, decode_less, decode_more, name_wrong, name_over, name_told, fits)
+pub ruleset decoding_laws = (put_full, put_one, part_starts, part_end, part_more, code_one, code_two, code_three, code_four, held_wrong, held_code, held_no, held_plain, decode_wrong, decode_starts, decode_end, decode_bad, decode_less, decode_more, name_wrong, name_over, name_told, fits)
 
 -- for a return or a loop: its law alone, so that a search that finds nothing ends
-pub ruleset decimal_laws = (hex_decimal)
-
-pub ruleset lower_laws = (hex_lower)
-
 pub ruleset high_laws = (code_high)
 
 pub ruleset space_laws = (plain_20)
 
 pub ruleset e0_laws = (wide_e0)
-
-pub ruleset more_laws = (plain_more, arith)
-
-pub ruleset other_laws = (ascii_other)

@@ -1,7 +1,6 @@
 pub mod Steps
 pub mod Scan
 pub mod Words
-pub mod Bytes
 pub mod NumberSteps
 pub mod Plain
 pub mod HexDigits

@@ -1,25 +1,23 @@
 -- A string without escapes: its bytes as they stand.
-use Rattle.std.specs.Prelude.{if◌then◌else◌}
+use Rattle.std.specs.Prelude.{if◌then◌else◌, slice_get, Option, Some, None}
 use mathlib.Core.Path.{◌≡◌, refl, ap, sym, ◌∙◌}
-use mathlib.Core.Bool.{Bool, true, false, not, and-false, and-eq-true_iff}
+use mathlib.Core.Bool.{Bool, true, false, not, and-eq-true_iff}
 use mathlib.Core.List.{[], ◌∷◌, ◌++◌}
 use Prim.Native.Nat.{ℕ, zero, suc, ◌+◌, ◌-◌, ◌≤◌, ◌<◌}
 use native.Mathlib.Nat.{lt_irrefl, add-zero}
 use native.Mathlib.Omega.{arith}
 use borrow.Author.Tests.{eqb-true, eqb-false, leb-true, leb-false, ne_eqb, eq-eqb}
 use lib.Dec.{eqb, leb}
-use lib.ListN.{length, get_or, take, drop}
-use lib.Seq.{drop-cons, drop-drop, take-add}
-use Rattle.ascii.specs.Ascii.{Bytes, between}
+use Rattle.std.specs.Option.{option_eq}
+use lib.ListN.{length, take, drop}
+use lib.Seq.{drop-drop, take-add}
+use Rattle.ascii.specs.Ascii.{Bytes, between, among}
 use Rattle.json_text.specs.Reader.{Read, got, bad, Reader, more, behind, ◌>>=◌, ◌>>◌, give, fail, peek, satisfy, byte_range, count_while, many, lead◌to◌then◌else◌, mapped}
 use Rattle.json_text.specs.Utf8.{utf8_tail, then_tail, then_tails, multibyte_char}
 use Rattle.json_text.specs.Lexical.{unescaped, read_char, read_chars, read_string}
 use Rattle.json_text.specs.code.Places.{Peeked, read_at, place_of}
 use Rattle.json_text.specs.code.PlainString.{is_plain, is_ascii_char, AsciiString, is_short, is_unknown, in_the_text, no_place, plain_string, other_string, PlainIs}
-use Rattle.json_text.specs.declared.Next.{Next}
-use Rattle.json_text.specs.declared.Next.TheVariants.{At, Bad}
-use Rattle.json_text.proofs.Steps.{on, then_bad, one_yes, one_no, counted_at, is_one, not_one, fail_at, inside, under, above, between_tells}
-use Rattle.json_text.proofs.Scan.{scan_stop, scan_more}
+use Rattle.json_text.proofs.Steps.{not_false, wide, seen, in_text, here, peeks, at_front, this, on, then_bad, one_yes, one_no, counted_at, is_one, not_one, fail_at, between_tells}
 use Rattle.json_text.proofs.Plain.{plain_20, plain_23, plain_5d}
 use Rattle.json_text.proofs.Chars.{char_raw, char_plain, chars_end, chars_stop, chars_step, Spells, spells_starts, spells_end, spells_more, string_some}
 use Rattle.json_text.proofs.Holding.{verbatim_at, verbatim_bad}
@@ -170,6 +168,12 @@ plains_to s i k h m = ap plains (sym (drop_to s i k h)) ∙ plains_drop (k - i) 
 
 -- ---- the characters up to a quotation mark, none of them escaped
 
+is_now : (s : Bytes) (i n : ℕ) → peek (drop i s) ≡ n → among (n ∷ []) (wide (slice_get s i)) ≡ true
+is_now s i n e = rw (seen (peeks s i)) (is_one (peek (drop i s)) n e)
+
+not_now : (s : Bytes) (i n : ℕ) → (peek (drop i s) ≡ n → ⊥) → among (n ∷ []) (wide (slice_get s i)) ≡ false
+not_now s i n e = rw (seen (peeks s i)) (not_one (peek (drop i s)) n e)
+
 -- the plain bytes from i on, and the place behind the quotation mark that follows them
 pub record Whole (s : Bytes) (i : ℕ) (x : Bytes) (j : ℕ) : Type 0 where
   pub is : x ≡ take (plains (drop i s)) (drop i s)
@@ -201,8 +205,8 @@ module _ (s : Bytes) where
     whole_step : {x : Bytes} {j : ℕ} → read_at (read_chars (suc n)) s i ≡ got x j → peek (drop (i + plains (drop i s)) s) ≡ 34 → (peek (drop i s) ≡ 34 → ⊥) → (peek (drop i s) ≡ 92 → ⊥) → Whole s i x j
     whole_step {x} {j} e h k m = go (read_at unescaped s i) refl
       where
-        g : Peeked s i (peek (drop i s))
-        g = record { is = refl }
+        g : Peeked s i (slice_get s i)
+        g = peeks s i
 
         read : (r : Read Bytes) (c : Bytes) → mapped (λ cs. c ++ cs) r ≡ got x j → (y : Bytes) × (r ≡ got y j) × (x ≡ c ++ y)
         read (got y q) c f = unfold mapped in (let z : q ≡ j = cc in let w : c ++ y ≡ x = cc in (y, ap (got y) z, sym w))
@@ -210,12 +214,12 @@ module _ (s : Bytes) where
 
         go : (r : Read (Unit {0})) → read_at unescaped s i ≡ r → Whole s i x j
         go bad f =
-            let y : ◌≡◌ {A = Read Bytes} bad (got x j) = sym (chars_stop g n k (char_raw g m ∙ verbatim_bad unescaped s i f)) ∙ e in
+            let y : ◌≡◌ {A = Read Bytes} bad (got x j) = sym (chars_stop g n (not_now s i 34 k) (char_raw g (not_now s i 92 m) ∙ verbatim_bad unescaped s i f)) ∙ e in
             let z : ◌≡◌ {A = ℕ} 0 1 = cc in
             absurd (omega arith)
         go (got u q) f =
             let a = clear_at s i f in
-            let w = chars_step g n k (char_raw g m ∙ verbatim_at unescaped s i f) in
+            let w = chars_step g n (not_now s i 34 k) (char_raw g (not_now s i 92 m) ∙ verbatim_at unescaped s i f) in
             let p = read (read_at (read_chars n) s q) (take (q - i) (drop i s)) (sym w ∙ e) in
             let d : plains (drop q s) ≡ plains (drop i s) - (q - i) = plains_to s i q a.0 a.1 in
             let o : q + plains (drop q s) ≡ i + plains (drop i s) = omega (arith, a.0, a.1) in
@@ -233,7 +237,7 @@ module _ (s : Bytes) where
           → ((k : ℕ) (y : Bytes) (m : ℕ) → read_at (read_chars n) s k ≡ got y m → peek (drop (k + plains (drop k s)) s) ≡ 34 → Whole s k y m) → Whole s i x j
       go true v f k r =
           let b : peek (drop i s) ≡ 34 = eqb-true (peek (drop i s)) 34 f in
-          whole_end i b (sym (chars_end (record { is = refl }) n b) ∙ e)
+          whole_end i b (sym (chars_end (peeks s i) n (is_now s i 34 b)) ∙ e)
       go false true f k r =
           let b : peek (drop i s) ≡ 92 = eqb-true (peek (drop i s)) 92 k in
           let z : plains (drop i s) ≡ 0 = plains_none (drop i s) (plain_back (peek (drop i s)) b) in
@@ -243,23 +247,6 @@ module _ (s : Bytes) where
       go false false f k r = whole_step i n r e h (eqb-false (peek (drop i s)) 34 f) (eqb-false (peek (drop i s)) 92 k)
 
 -- ---- characters of one byte
-
-module _ (b : ℕ) where
-  pub ascii_low : {n : ℕ} → b < n → n ≤ 0x20 → false ≡ is_ascii_char b
-  unfolding is_ascii_char
-  ascii_low h k = rw (under 0x20 0x7F b (omega arith))
-
-  pub ascii_high : {n : ℕ} → n < b → 0x7F ≤ n → false ≡ is_ascii_char b
-  unfolding is_ascii_char
-  ascii_high h k = rw (above 0x20 0x7F b (omega arith))
-
-  pub ascii_quote : b ≡ 34 → false ≡ is_ascii_char b
-  unfolding is_ascii_char
-  ascii_quote e = rw (plain_not b e, and-false (between 0x20 0x7F b))
-
-  pub ascii_other : 0x20 ≤ b → b ≤ 0x7F → (b ≡ 34 → ⊥) → not (eqb b 92) ≡ is_ascii_char b
-  unfolding is_ascii_char is_plain
-  ascii_other h k n = rw (inside 0x20 0x7F b h k, ne_eqb b 34 n)
 
 ascii_tells : (b : ℕ) → is_ascii_char b ≡ true → (0x20 ≤ b) × (b ≤ 0x7F) × (b ≡ 34 → ⊥) × (b ≡ 92 → ⊥)
 unfolding is_ascii_char
@@ -272,110 +259,96 @@ ascii_tells b e =
     not_both f g = let z : true ≡ false = sym g ∙ f in let w : ◌≡◌ {A = ℕ} 0 1 = cc in omega arith
 
 -- it is read as a character of one byte
-ascii_char : (s : Bytes) (i : ℕ) → is_ascii_char (peek (drop i s)) ≡ true → At (i + 1) ≡ place_of (read_at read_char s i)
-ascii_char s i e =
-    let x = ascii_tells (peek (drop i s)) e in
-    char_plain g x.3 (go (leb (peek (drop i s)) 0x21) (leb (peek (drop i s)) 0x5B) refl refl x.0 x.1 x.2 x.3)
+ascii_char : {s : Bytes} {i b : ℕ} → Peeked s i (Some b) → is_ascii_char b ≡ true → Some (i + 1) ≡ place_of (read_at read_char s i)
+ascii_char {s} {i} {b} g e =
+    let x = ascii_tells b e in
+    char_plain g (not_one b 92 x.3) (go (leb b 0x21) (leb b 0x5B) refl refl x.0 x.1 x.2 x.3)
   where
-    g : Peeked s i (peek (drop i s))
-    g = record { is = refl }
-
-    go : (u v : Bool) → leb (peek (drop i s)) 0x21 ≡ u → leb (peek (drop i s)) 0x5B ≡ v → 0x20 ≤ peek (drop i s) → peek (drop i s) ≤ 0x7F → (peek (drop i s) ≡ 34 → ⊥) → (peek (drop i s) ≡ 92 → ⊥)
-        → At (i + 1) ≡ place_of (read_at unescaped s i)
-    go true v f h l m n p = plain_20 g l (leb-true (peek (drop i s)) 0x21 f)
-    go false true f h l m n p = plain_23 g (leb-false (peek (drop i s)) 0x21 f) n (leb-true (peek (drop i s)) 0x5B h)
-    go false false f h l m n p = plain_5d g (leb-false (peek (drop i s)) 0x5B h) p m
+    go : (u v : Bool) → leb b 0x21 ≡ u → leb b 0x5B ≡ v → 0x20 ≤ b → b ≤ 0x7F → (b ≡ 34 → ⊥) → (b ≡ 92 → ⊥) → Some (i + 1) ≡ place_of (read_at unescaped s i)
+    go true v f h l m n p = plain_20 g refl l (omega arith) (omega (arith, leb-true b 0x21 f))
+    go false true f h l m n p = plain_23 g refl (omega (arith, leb-false b 0x21 f)) (omega (arith, leb-true b 0x5B h))
+    go false false f h l m n p = plain_5d g refl (omega (arith, leb-false b 0x5B h)) (omega arith)
 
 -- past the characters of one byte
-ascii_on : (m : ℕ) (s : Bytes) (goal : Next) (i : ℕ) → count_while is_ascii_char (drop i s) ≡ m → Spells s goal i → Spells s goal (i + m)
+ascii_on : (m : ℕ) (s : Bytes) (goal : Option ℕ) (i : ℕ) → count_while is_ascii_char (drop i s) ≡ m → Spells s goal i → Spells s goal (i + m)
 ascii_on zero s goal i e L = rw (add-zero i) L
-ascii_on (suc m) s goal i e L =
-    let c = front (drop i s) e in
-    let M = spells_more L (record { is = refl }) (ascii_tells (peek (drop i s)) c.0).2 (ascii_char s i c.0) refl in
-    let z : count_while is_ascii_char (drop (i + 1) s) ≡ m = ap (count_while is_ascii_char) (sym (drop-drop 1 i s)) ∙ c.1 in
-    let w : i + 1 + m ≡ i + suc m = omega arith in
-    rw w at (ascii_on m s goal (i + 1) z M)
+ascii_on (suc m) s goal i e L = go (drop i s) refl e (λ z M. ascii_on m s goal (i + 1) z M)
   where
-    front : (l : Bytes) → count_while is_ascii_char l ≡ suc m → (is_ascii_char (peek l) ≡ true) × (count_while is_ascii_char (drop 1 l) ≡ m)
-    front [] e = unfold count_while in (let w : ◌≡◌ {A = ℕ} 0 1 = omega arith in absurd (omega arith))
-    front (b ∷ l) e = unfold peek count_while in (go (is_ascii_char b) refl e)
-      where
-        go : (u : Bool) → is_ascii_char b ≡ u → (if u then suc (count_while is_ascii_char l) else 0) ≡ suc m → (is_ascii_char b ≡ true) × (count_while is_ascii_char l ≡ m)
-        go true f e = (f, omega arith)
-        go false f e = absurd (omega arith)
+    on_one : (b : ℕ) (l : Bytes) → drop i s ≡ b ∷ l → is_ascii_char b ≡ true → count_while is_ascii_char l ≡ m → (count_while is_ascii_char (drop (i + 1) s) ≡ m → Spells s goal (i + 1) → Spells s goal (i + 1 + m)) → Spells s goal (i + suc m)
+    on_one b l f c d rest =
+        let g : Peeked s i (Some b) = at_front f in
+        let M = spells_more L g refl (ne_eqb b 34 (ascii_tells b c).2) (ascii_char g c) refl in
+        let n : drop (i + 1) s ≡ l = sym (drop-drop 1 i s) ∙ ap (drop 1) f in
+        let z : count_while is_ascii_char (drop (i + 1) s) ≡ m = ap (count_while is_ascii_char) n ∙ d in
+        let w : i + 1 + m ≡ i + suc m = omega arith in
+        rw w at (rest z M)
 
-module _ {s : Bytes} {goal : Next} {i k b : ℕ} (L : Spells s goal i) (e : read_at (many is_ascii_char) s i ≡ got tt k) (g : Peeked s k b) where
+    go : (l : Bytes) → drop i s ≡ l → count_while is_ascii_char l ≡ suc m → (count_while is_ascii_char (drop (i + 1) s) ≡ m → Spells s goal (i + 1) → Spells s goal (i + 1 + m)) → Spells s goal (i + suc m)
+    go [] f e rest = unfold count_while in (let w : ◌≡◌ {A = ℕ} 0 1 = omega arith in absurd (omega arith))
+    go (b ∷ l) f e rest = unfold count_while in (front (is_ascii_char b) refl e)
+      where
+        front : (u : Bool) → is_ascii_char b ≡ u → (if u then suc (count_while is_ascii_char l) else 0) ≡ suc m → Spells s goal (i + suc m)
+        front true c e = on_one b l f c (omega arith) rest
+        front false c e = absurd (omega arith)
+
+module _ {s : Bytes} {goal : Option ℕ} {i k : ℕ} (L : Spells s goal i) (e : read_at (many is_ascii_char) s i ≡ got tt k) where
   on_to : Spells s goal k
   on_to = go e
     where
       go : read_at (many is_ascii_char) s i ≡ got tt k → Spells s goal k
       go e = unfold read_at many more in (let z : i + count_while is_ascii_char (drop i s) ≡ k = cc in rw z at (ascii_on (count_while is_ascii_char (drop i s)) s goal i refl L))
 
-  ascii_end : b ≡ 34 → At (k + 1) ≡ goal
-  ascii_end h = spells_end on_to g h
-
-pub ascii_none : (s : Bytes) (from : ℕ) → AsciiString s from Bad
+pub ascii_none : (s : Bytes) (from : ℕ) → AsciiString s from None
 ascii_none s from = is_unknown
 
-pub ascii_string : (s : Bytes) (from : ℕ) {k b c : ℕ} → Peeked s from b → b ≡ 34 → read_at (many is_ascii_char) s (from + 1) ≡ got tt k → Peeked s k c → c ≡ 34 → AsciiString s from (At (k + 1))
-ascii_string s from g h e f n = is_short (record { is = sym h ∙ g.is }) (string_some g h (ascii_end (spells_starts s (from + 1)) e f n))
+pub ascii_string : (s : Bytes) (from : ℕ) {k : ℕ} {b c : Option ℕ} {u w : Bool} → Peeked s from b → u ≡ not (option_eq eqb b (Some 34)) → u ≡ false → read_at (many is_ascii_char) s (from + 1) ≡ got tt k
+    → Peeked s k c → w ≡ option_eq eqb c (Some 34) → w ≡ true → AsciiString s from (Some (k + 1))
+ascii_string s from {b} g t h e f y z =
+    let v : option_eq eqb b (Some 34) ≡ true = not_false (option_eq eqb b (Some 34)) (sym t ∙ h) in
+    is_short (here g (this b 34 refl v)) (string_some g refl v (spells_end (on_to (spells_starts s (from + 1)) e) f y z))
 
 -- ---- the string at a place
 
-module _ {s : Bytes} {from b : ℕ} (g : Peeked s from b) where
-  string_on : b ≡ 34 → read_at read_string s from ≡ read_at (read_chars (suc (length (drop (from + 1) s)))) s (from + 1)
+module _ {s : Bytes} {from : ℕ} {b : Option ℕ} (g : Peeked s from b) where
+  string_on : among (34 ∷ []) (wide b) ≡ true → read_at read_string s from ≡ read_at (read_chars (suc (length (drop (from + 1) s)))) s (from + 1)
   unfolding read_string
-  string_on h = on _ _ _ _ (one_yes g _ (is_one b 34 h)) ∙ counted_at read_chars s (from + 1)
+  string_on h = on _ _ _ _ (one_yes g _ h) ∙ counted_at read_chars s (from + 1)
 
-  string_off : (b ≡ 34 → ⊥) → read_at read_string s from ≡ bad
+  string_off : among (34 ∷ []) (wide b) ≡ false → read_at read_string s from ≡ bad
   unfolding read_string
-  string_off h = then_bad _ _ _ _ (one_no g _ (not_one b 34 h))
+  string_off h = then_bad _ _ _ _ (one_no g _ h)
 
 module _ (s : Bytes) (from : ℕ) {x : Bytes} {j : ℕ} (e : read_at read_string s from ≡ got x j) where
   chars_of : read_at (read_chars (suc (length (drop (from + 1) s)))) s (from + 1) ≡ got x j
   chars_of = go (eqb (peek (drop from s)) 34) refl
     where
-      g : Peeked s from (peek (drop from s))
-      g = record { is = refl }
+      g : Peeked s from (slice_get s from)
+      g = peeks s from
 
       go : (u : Bool) → eqb (peek (drop from s)) 34 ≡ u → read_at (read_chars (suc (length (drop (from + 1) s)))) s (from + 1) ≡ got x j
-      go true h = sym (string_on g (eqb-true (peek (drop from s)) 34 h)) ∙ e
+      go true h = sym (string_on g (is_now s from 34 (eqb-true (peek (drop from s)) 34 h))) ∙ e
       go false h =
-          let y : ◌≡◌ {A = Read Bytes} bad (got x j) = sym (string_off g (eqb-false (peek (drop from s)) 34 h)) ∙ e in
+          let y : ◌≡◌ {A = Read Bytes} bad (got x j) = sym (string_off g (not_now s from 34 (eqb-false (peek (drop from s)) 34 h))) ∙ e in
           let z : ◌≡◌ {A = ℕ} 0 1 = cc in
           absurd (omega arith)
 
--- ---- the loop
+-- ---- its end, where it has no escapes
 
--- the plain bytes behind the opening quotation mark go on to i
-pub record Scans (s : Bytes) (from i : ℕ) : Type 0 where
-  pub above : from + 1 ≤ i
-  pub is : read_at (many is_plain) s i ≡ read_at (many is_plain) s (from + 1)
-
-pub plain_none : (s : Bytes) (from : ℕ) → PlainIs s from Bad
+pub plain_none : (s : Bytes) (from : ℕ) → PlainIs s from None
 plain_none s from = record { within = no_place; is = λ x j e. other_string }
 
-pub plain_starts : (s : Bytes) (from : ℕ) → Scans s from (from + 1)
-plain_starts s from = record { above = omega arith; is = refl }
+plain_to : (s : Bytes) (from : ℕ) {i : ℕ} → read_at (many is_plain) s (from + 1) ≡ got tt i → from + 1 + plains (drop (from + 1) s) ≡ i
+unfolding read_at many more
+plain_to s from e = cc
 
-module _ {s : Bytes} {from i : ℕ} (L : Scans s from i) (h : i < length s) where
-  counted_to : (m : ℕ) → read_at (many is_plain) s (from + 1) ≡ got tt m → from + 1 + plains (drop (from + 1) s) ≡ m
-  unfolding read_at many more
-  counted_to m e = cc
-
-  pub plain_found : get_or s i 0 ≡ 34 → PlainIs s from (At i)
-  plain_found k =
-      let a = counted_to i (scan_stop is_plain s i L.is h (sym (plain_not (get_or s i 0) k)) refl) in
-      let m : plains (drop (from + 1) s) ≡ i - (from + 1) = omega arith in
-      record {
-        within = in_the_text L.above h;
-        is = λ x j e.
-            let W = whole_at s _ (from + 1) (chars_of s from e) (rw a (peek_here k)) in
-            plain_string {q = i} (omega (arith, W.end)) (W.is ∙ ap (λ (n : ℕ). take n (drop (from + 1) s)) m);
-      }
-    where
-      peek_here : get_or s i 0 ≡ 34 → peek (drop i s) ≡ 34
-      peek_here k = unfold peek in rw (drop-cons s i 0 h) k
-
-  pub plain_more : (get_or s i 0 ≡ 34 → ⊥) → (get_or s i 0 ≡ 92 → ⊥) → Scans s from (i + 1)
-  plain_more k m = record { above = omega (arith, L.above); is = scan_more is_plain s i L.is h (sym (plain_yes (get_or s i 0) k m)) refl }
+pub plain_found : {s : Bytes} {from i : ℕ} {b : Option ℕ} {w : Bool} → read_at (many is_plain) s (from + 1) ≡ got tt i → Peeked s i b → w ≡ option_eq eqb b (Some 34) → w ≡ true → PlainIs s from (Some i)
+plain_found {s} {from} {i} {b} R g t k =
+    let p = plain_to s from R in
+    let h : Peeked s i (Some 34) = here g (this b 34 t k) in
+    let m : plains (drop (from + 1) s) ≡ i - (from + 1) = omega arith in
+    record {
+      within = in_the_text (omega arith) (in_text s i h);
+      is = λ x j e.
+          let W = whole_at s _ (from + 1) (chars_of s from e) (rw p (sym (seen h))) in
+          plain_string {q = i} (omega (arith, W.end)) (W.is ∙ ap (λ (n : ℕ). take n (drop (from + 1) s)) m);
+    }

@@ -1,26 +1,26 @@
 -- The steps of a reader, at places of a text.
-use Rattle.std.specs.Prelude.{if◌then◌else◌}
+use Rattle.std.specs.Prelude.{if◌then◌else◌, slice_get, Option, Some, None}
 use mir.Syntax.{w64}
 use mir.Val.{Fits}
-use mathlib.Core.Path.{◌≡◌, refl, ap}
-use mathlib.Core.Bool.{Bool, true, false, ◌&&◌, ◌||◌, and-eq-true_iff}
-use mathlib.Core.Logic.{◌⊎◌, inl, inr}
+use mathlib.Core.Path.{◌≡◌, refl, ap, sym, ◌∙◌}
+use mathlib.Core.Bool.{Bool, true, false, not, ◌&&◌, ◌||◌, and-eq-true_iff}
+use mathlib.Core.Logic.{inl, inr}
 use mathlib.Core.List.{[], ◌∷◌}
 use Prim.Native.Nat.{ℕ, zero, suc, ◌+◌, ◌^◌, ◌≤◌, ◌<◌, suc-le-suc}
 use native.Mathlib.Nat.{lt_irrefl, add-zero}
 use native.Mathlib.Omega.{arith}
-use borrow.Author.Tests.{eq-eqb, ne_eqb, le-leb, lt-leb, leb-true}
+use borrow.Author.Tests.{eq-eqb, ne_eqb, le-leb, lt-leb, leb-true, eqb-true}
 use types.Run.{OneOf}
 use lib.Dec.{eqb, leb}
-use lib.ListN.{length, get_or, drop, drop_of_length-le}
-use lib.Seq.{drop-cons, drop-drop}
+use Rattle.std.specs.Option.{option_eq}
+use Rattle.std.specs.ControlFlow.{continue_value}
+use Rattle.std.specs.declared.ops.ControlFlow.{ControlFlow}
+use Rattle.std.specs.declared.ops.ControlFlow.TheVariants.{Continue, Break}
+use lib.ListN.{length, drop}
+use lib.Seq.{drop-drop}
 use Rattle.ascii.specs.Ascii.{Bytes, between, among}
 use Rattle.json_text.specs.Reader.{Read, got, bad, Reader, more, behind, ◌>>=◌, give, fail, peek, satisfy, if_next◌then◌else◌, lead◌to◌then◌else◌, either_read, ◌or◌, mapped, ◌giving◌, as_written, verbatim, counted}
 use Rattle.json_text.specs.code.Places.{Peeked, read_at, place_of, point_of}
-use Rattle.json_text.specs.declared.Next.{Next}
-use Rattle.json_text.specs.declared.Next.TheVariants.{At, Bad}
-use Rattle.json_text.specs.declared.Point.{Point}
-use Rattle.json_text.specs.declared.Point.TheVariants.{Code, Wrong}
 
 -- ---- bytes
 
@@ -31,24 +31,57 @@ peek_in [] (suc i) h = absurd (lt_irrefl 256 h)
 peek_in (x ∷ s) zero h = omega arith
 peek_in (x ∷ s) (suc i) h = suc-le-suc (peek_in s i h)
 
-pub peeked_at : {r : ℕ} (s : Bytes) (i : ℕ) → i < length s → r ≡ get_or s i 0 → Peeked s i r
-unfolding peek
-peeked_at s i h e = record { is = rw (drop-cons s i 0 h, e) }
+-- its number; 256 where there is none
+abbrev pub wide : Option ℕ → ℕ
+wide None = 256
+wide (Some b) = b
 
-pub peeked_past : (s : Bytes) (i : ℕ) → length s ≤ i → Peeked s i 256
-unfolding peek
-peeked_past s i h = record { is = rw (drop_of_length-le s h) }
+pub seen : {s : Bytes} {i : ℕ} {q : Option ℕ} → Peeked s i q → wide q ≡ peek (drop i s)
+seen {s} {i} g = ap wide g.is ∙ go s i
+  where
+    go : (s : Bytes) (i : ℕ) → wide (slice_get s i) ≡ peek (drop i s)
+    go [] zero = unfold peek in refl
+    go [] (suc i) = unfold peek in refl
+    go (x ∷ s) zero = unfold peek in refl
+    go (x ∷ s) (suc i) = go s i
+
+pub here : {s : Bytes} {i b : ℕ} {q : Option ℕ} → Peeked s i q → q ≡ Some b → Peeked s i (Some b)
+here g e = record { is = sym e ∙ g.is }
+
+pub gone : {s : Bytes} {i : ℕ} {q : Option ℕ} → Peeked s i q → q ≡ None → Peeked s i None
+gone g e = record { is = sym e ∙ g.is }
+
+pub peeks : (s : Bytes) (i : ℕ) → Peeked s i (slice_get s i)
+peeks s i = record { is = refl }
+
+pub past_text : {s : Bytes} {i : ℕ} → drop i s ≡ [] → Peeked s i None
+past_text {s} {i} e = record { is = go s i e }
+  where
+    go : (s : Bytes) (i : ℕ) → drop i s ≡ [] → None ≡ slice_get s i
+    go [] i e = refl
+    go (x ∷ s) zero e = let z : ◌≡◌ {A = ℕ} 0 1 = cc in absurd (omega arith)
+    go (x ∷ s) (suc i) e = go s i e
+
+pub at_front : {s : Bytes} {i b : ℕ} {l : Bytes} → drop i s ≡ b ∷ l → Peeked s i (Some b)
+at_front {s} {i} e = record { is = go s i e }
+  where
+    go : (s : Bytes) (i : ℕ) {b : ℕ} {l : Bytes} → drop i s ≡ b ∷ l → Some b ≡ slice_get s i
+    go [] zero e = let z : ◌≡◌ {A = ℕ} 0 1 = cc in absurd (omega arith)
+    go [] (suc i) e = let z : ◌≡◌ {A = ℕ} 0 1 = cc in absurd (omega arith)
+    go (x ∷ s) zero e = cc
+    go (x ∷ s) (suc i) e = go s i e
+
+pub in_text : (s : Bytes) (i : ℕ) {b : ℕ} → Peeked s i (Some b) → i < length s
+in_text s i {b} g = go s i g.is
+  where
+    go : (s : Bytes) (i : ℕ) → Some b ≡ slice_get s i → i < length s
+    go [] i e = let z : ◌≡◌ {A = ℕ} 0 1 = cc in absurd (omega arith)
+    go (x ∷ s) zero e = omega arith
+    go (x ∷ s) (suc i) e = suc-le-suc (go s i e)
 
 -- past a byte that is there
-pub fits_next : (s : Bytes) (k b n : ℕ) → Peeked s k b → b ≡ n → n < 256 → length s < 2 ^ 64 → Fits w64 (k + 1)
-fits_next s k b n g e h l = record { fits = omega (arith, peek_in s k (omega arith)) }
-
-pub fits_either : (s : Bytes) (k b m n : ℕ) → Peeked s k b → (b ≡ m) ⊎ (b ≡ n) → m < 256 → n < 256 → length s < 2 ^ 64 → Fits w64 (k + 1)
-fits_either s k b m n g (inl e) h h' l = fits_next s k b m g e h l
-fits_either s k b m n g (inr e) h h' l = fits_next s k b n g e h' l
-
-pub fits_below : (s : Bytes) (k b n : ℕ) → Peeked s k b → b ≤ n → n < 256 → length s < 2 ^ 64 → Fits w64 (k + 1)
-fits_below s k b n g e h l = record { fits = omega (arith, peek_in s k (omega arith)) }
+pub fits_next : (s : Bytes) (k b : ℕ) (q : Option ℕ) → Peeked s k q → q ≡ Some b → length s < 2 ^ 64 → Fits w64 (k + 1)
+fits_next s k b q g e l = record { fits = omega (arith, in_text s k (here g e)) }
 
 -- ---- tests
 
@@ -88,6 +121,60 @@ is_one b n e = rw (eq-eqb b n e)
 pub not_one : (b n : ℕ) → (b ≡ n → ⊥) → among (n ∷ []) b ≡ false
 not_one b n e = rw (ne_eqb b n e)
 
+-- the byte at a place, compared with a byte
+pub this : {w : Bool} (q : Option ℕ) (n : ℕ) → w ≡ option_eq eqb q (Some n) → w ≡ true → q ≡ Some n
+this None n e h = let z : true ≡ false = sym h ∙ e in let y : ◌≡◌ {A = ℕ} 0 1 = cc in absurd (omega arith)
+this (Some b) n e h = ap Some (eqb-true b n (sym e ∙ h))
+
+pub is_this : {w : Bool} (q : Option ℕ) (n : ℕ) → w ≡ option_eq eqb q (Some n) → w ≡ true → among (n ∷ []) (wide q) ≡ true
+is_this q n e h = rw (this q n e h, eq-eqb n n refl)
+
+pub not_this : {w : Bool} (q : Option ℕ) (n : ℕ) → n < 256 → w ≡ option_eq eqb q (Some n) → w ≡ false → among (n ∷ []) (wide q) ≡ false
+not_this None n l e h = rw (ne_eqb 256 n (λ z. omega arith))
+not_this (Some b) n l e h = let z : eqb b n ≡ false = sym e ∙ h in rw z
+
+pub not_true : (x : Bool) → not x ≡ true → x ≡ false
+not_true true e = sym e
+not_true false e = refl
+
+pub not_false : (x : Bool) → not x ≡ false → x ≡ true
+not_false true e = refl
+not_false false e = sym e
+
+-- the same where the code asks whether it is another
+module _ {w : Bool} (q : Option ℕ) (n : ℕ) where
+  pub isnt_this : n < 256 → w ≡ not (option_eq eqb q (Some n)) → w ≡ true → among (n ∷ []) (wide q) ≡ false
+  isnt_this l e h = not_this q n l refl (not_true (option_eq eqb q (Some n)) (sym e ∙ h))
+
+  module _ (e : w ≡ not (option_eq eqb q (Some n))) (h : w ≡ false) where
+    pub told_not : q ≡ Some n
+    told_not = this q n refl (not_false (option_eq eqb q (Some n)) (sym e ∙ h))
+
+    pub isnt_not : among (n ∷ []) (wide q) ≡ true
+    isnt_not = is_this q n refl (not_false (option_eq eqb q (Some n)) (sym e ∙ h))
+
+pub wide_is : {w : Bool} (q : Option ℕ) (n : ℕ) → w ≡ option_eq eqb q (Some n) → w ≡ true → wide q ≡ n
+wide_is q n e h = ap wide (this q n e h)
+
+pub wide_isnt : {w : Bool} (q : Option ℕ) (n : ℕ) → w ≡ not (option_eq eqb q (Some n)) → w ≡ false → wide q ≡ n
+wide_isnt q n e h = ap wide (told_not q n e h)
+
+pub wide_some : (q : Option ℕ) (n : ℕ) → n < 256 → wide q ≡ n → q ≡ Some n
+wide_some None n l e = absurd (omega arith)
+wide_some (Some b) n l e = ap Some e
+
+pub among_not : (b n : ℕ) → among (n ∷ []) b ≡ false → b ≡ n → ⊥
+among_not b n e h = let z : true ≡ false = sym (is_one b n h) ∙ e in let y : ◌≡◌ {A = ℕ} 0 1 = cc in omega arith
+
+-- ---- what `?` took out, or left
+
+module _ {A R : Type 0} {q : Option A} {w : ControlFlow R A} (e : q ≡ continue_value w) where
+  pub took : {a : A} → w ≡ Continue a → q ≡ Some a
+  took h = e ∙ ap continue_value h
+
+  pub left : {r : R} → w ≡ Break r → q ≡ None
+  left h = e ∙ ap continue_value h
+
 -- ---- what was read, put at a place
 
 pub more_more : {A : Type 0} (i n : ℕ) (r : Read A) → more i (more n r) ≡ more (i + n) r
@@ -96,22 +183,25 @@ more_more i n (got a m) = ap (got a) (omega arith)
 more_more i n bad = refl
 
 -- a value was read, or not
-pub found : {A : Type 0} {q : Next} {j : ℕ} (r : Read A) → q ≡ place_of r → q ≡ At j → (a : A) × (r ≡ got a j)
+pub found : {A : Type 0} {q : Option ℕ} {j : ℕ} (r : Read A) → q ≡ place_of r → q ≡ Some j → (a : A) × (r ≡ got a j)
 unfolding place_of
 found {j} (got a n) e h = let z : n ≡ j = cc in (a, ap (got a) z)
 found bad e h = let z : ◌≡◌ {A = ℕ} 0 1 = cc in absurd (omega arith)
 
-pub missed : {A : Type 0} {q : Next} (r : Read A) → q ≡ place_of r → q ≡ Bad → r ≡ bad
+pub missed : {A : Type 0} {q : Option ℕ} (r : Read A) → q ≡ place_of r → q ≡ None → r ≡ bad
 unfolding place_of
 missed (got a n) e h = let z : ◌≡◌ {A = ℕ} 0 1 = cc in absurd (omega arith)
 missed bad e h = refl
 
-pub point_found : {q : Point} {c j : ℕ} (r : Read ℕ) → q ≡ point_of r → q ≡ Code c j → r ≡ got c j
+pub pairs : {a b c d : ℕ} → ◌≡◌ {A = Option (ℕ × ℕ)} (Some (a, b)) (Some (c, d)) → (a ≡ c) × (b ≡ d)
+pairs {a} {b} {c} {d} e = let z : ◌≡◌ {A = ℕ × ℕ} (a, b) (c, d) = cc in (ap (λ (p : ℕ × ℕ). p.0) z, ap (λ (p : ℕ × ℕ). p.1) z)
+
+pub point_found : {q : Option (ℕ × ℕ)} {c j : ℕ} (r : Read ℕ) → q ≡ point_of r → q ≡ Some (c, j) → r ≡ got c j
 unfolding point_of
-point_found (got a n) e h = cc
+point_found {c} {j} (got a n) e h = let z = pairs (sym e ∙ h) in rw (z.0, z.1)
 point_found bad e h = let z : ◌≡◌ {A = ℕ} 0 1 = cc in absurd (omega arith)
 
-pub point_missed : {q : Point} (r : Read ℕ) → q ≡ point_of r → q ≡ Wrong → r ≡ bad
+pub point_missed : {q : Option (ℕ × ℕ)} (r : Read ℕ) → q ≡ point_of r → q ≡ None → r ≡ bad
 unfolding point_of
 point_missed (got a n) e h = let z : ◌≡◌ {A = ℕ} 0 1 = cc in absurd (omega arith)
 point_missed bad e h = refl
@@ -142,31 +232,31 @@ module _ {A B : Type 0} (p : Reader A) (k : A → Reader B) (s : Bytes) (i : ℕ
 
 -- ---- the readers
 
-module _ {s : Bytes} {i b : ℕ} (g : Peeked s i b) where
-  pub one_yes : (f : ℕ → Bool) → f b ≡ true → read_at (satisfy f) s i ≡ got tt (i + 1)
+module _ {s : Bytes} {i : ℕ} {q : Option ℕ} (g : Peeked s i q) where
+  pub one_yes : (f : ℕ → Bool) → f (wide q) ≡ true → read_at (satisfy f) s i ≡ got tt (i + 1)
   unfolding read_at satisfy more
-  one_yes f h = rw (← g.is, h)
+  one_yes f h = rw (← seen g, h)
 
-  pub one_no : (f : ℕ → Bool) → f b ≡ false → read_at (satisfy f) s i ≡ bad
+  pub one_no : (f : ℕ → Bool) → f (wide q) ≡ false → read_at (satisfy f) s i ≡ bad
   unfolding read_at satisfy more
-  one_no f h = rw (← g.is, h)
+  one_no f h = rw (← seen g, h)
 
-  module _ {A : Type 0} (p q : Reader A) where
-    pub next_yes : (bytes : Bytes) → among bytes b ≡ true → read_at (if_next bytes then p else q) s i ≡ read_at p s i
+  module _ {A : Type 0} (p o : Reader A) where
+    pub next_yes : (bytes : Bytes) → among bytes (wide q) ≡ true → read_at (if_next bytes then p else o) s i ≡ read_at p s i
     unfolding read_at if_next◌then◌else◌
-    next_yes bytes h = rw (← g.is, h)
+    next_yes bytes h = rw (← seen g, h)
 
-    pub next_no : (bytes : Bytes) → among bytes b ≡ false → read_at (if_next bytes then p else q) s i ≡ read_at q s i
+    pub next_no : (bytes : Bytes) → among bytes (wide q) ≡ false → read_at (if_next bytes then p else o) s i ≡ read_at o s i
     unfolding read_at if_next◌then◌else◌
-    next_no bytes h = rw (← g.is, h)
+    next_no bytes h = rw (← seen g, h)
 
-    pub lead_yes : (lo hi : ℕ) → between lo hi b ≡ true → read_at (lead lo to hi then p else q) s i ≡ read_at p s (i + 1)
+    pub lead_yes : (lo hi : ℕ) → between lo hi (wide q) ≡ true → read_at (lead lo to hi then p else o) s i ≡ read_at p s (i + 1)
     unfolding read_at lead◌to◌then◌else◌ ◌>>=◌ satisfy behind
-    lead_yes lo hi h = rw (← g.is, h, more_more, drop-drop)
+    lead_yes lo hi h = rw (← seen g, h, more_more, drop-drop)
 
-    pub lead_no : (lo hi : ℕ) → between lo hi b ≡ false → read_at (lead lo to hi then p else q) s i ≡ read_at q s i
+    pub lead_no : (lo hi : ℕ) → between lo hi (wide q) ≡ false → read_at (lead lo to hi then p else o) s i ≡ read_at o s i
     unfolding read_at lead◌to◌then◌else◌
-    lead_no lo hi h = rw (← g.is, h)
+    lead_no lo hi h = rw (← seen g, h)
 
 -- ---- choices, values
 

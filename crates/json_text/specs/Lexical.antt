@@ -1,6 +1,5 @@
 -- The lexical grammar of JSON (RFC 8259, sections 2, 6 and 7), with its ABNF above each definition.
-use Rattle.std.specs.Prelude.{[], ◌++◌, Bool, ◌||◌, ℕ, zero, suc, ◌+◌, ◌-◌, ◌*◌, eqb, if◌then◌else◌}
-use Rattle.std.proofs.Math.Option.{Option, none, some}
+use Rattle.std.specs.Prelude.{[], ◌++◌, Bool, ◌||◌, ℕ, zero, suc, ◌+◌, ◌-◌, ◌*◌, eqb, if◌then◌else◌, Option, None, Some}
 use Prim.Native.Char.{code}
 use Rattle.ascii.specs.Ascii.{Bytes, between, is_digit, text}
 use Rattle.json_text.specs.Reader.{Reader, ◌>>=◌, ◌>>◌, give, fail, peek, satisfy, one_byte, one_of, byte_range, many, word, if_next◌then◌else◌, lead◌to◌then◌else◌, ◌or◌, optional, ◌giving◌, verbatim, counted}
@@ -51,10 +50,10 @@ unescaped =
 -- none for any other byte
 unfoldable pub hex_value : ℕ → Option ℕ
 hex_value b =
-    if between (code "0") (code "9") b then some (b - code "0") else
-    if between (code "A") (code "F") b then some (b - code "A" + 10) else
-    if between (code "a") (code "f") b then some (b - code "a" + 10) else
-    none
+    if between (code "0") (code "9") b then Some (b - code "0") else
+    if between (code "A") (code "F") b then Some (b - code "A" + 10) else
+    if between (code "a") (code "f") b then Some (b - code "a" + 10) else
+    None
 
 unfoldable pub hex_digit : Reader ℕ
 hex_digit s = one_byte (hex_value (peek s))

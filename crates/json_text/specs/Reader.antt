@@ -1,6 +1,5 @@
 -- Readers: what stands at the front of a text, and how many bytes it takes up.
-use Rattle.std.specs.Prelude.{[], ◌∷◌, Bool, ℕ, suc, ◌+◌, length, take, drop, if◌then◌else◌}
-use Rattle.std.proofs.Math.Option.{Option, none, some}
+use Rattle.std.specs.Prelude.{[], ◌∷◌, Bool, ℕ, suc, ◌+◌, length, take, drop, if◌then◌else◌, Option, None, Some}
 use Rattle.ascii.specs.Ascii.{Bytes, is_empty, between, among}
 
 -- a value, and how many bytes it takes up; or the bytes are wrong
@@ -56,8 +55,8 @@ satisfy f s = if f (peek s) then got tt 1 else bad
 
 -- one byte, with its value; a byte that has none is wrong
 unfoldable pub one_byte : {A : Type 0} → Option A → Read A
-one_byte (some a) = got a 1
-one_byte none = bad
+one_byte (Some a) = got a 1
+one_byte None = bad
 
 abbrev pub one_of : Bytes → Reader (Unit {0})
 one_of bytes = satisfy (among bytes)

@@ -6,7 +6,7 @@ ghost use Rattle.json_text.specs.code.Places.{read_at, content_of, is_text, Puts
 
 use super::escapes::read_escape;
 use super::unescaped::skip_unescaped;
-use super::{Decoded, ESCAPE, Next, Point, Progress, QUOTATION_MARK, byte_at};
+use super::{Decoded, byte_at};
 
 // One byte more behind the n bytes that are held, at most 512 (document 01, "The list"). A number above 512 says that there are more than are held.
 fn put(out: &mut [u8; 512], n: usize, b: u8) -> usize
@@ -24,14 +24,9 @@ fn put_part(out: &mut [u8; 512], n: usize, s: &[u8], from: usize, to: usize) -> 
     ensures { Puts out.old n (take (to - from) (drop from s.now)) out.new result }
 {
     let mut m = n;
-    let mut i = from;
-    while i < to {
-        if i < s.len() {
-            m = put(out, m, s[i]);
-            i += 1;
-        } else {
-            return m;
-        }
+    let part = ascii::part(s, from, to);
+    for b in part {
+        m = put(out, m, *b);
     }
     m
 }
@@ -58,42 +53,33 @@ fn put_code(out: &mut [u8; 512], n: usize, c: u32) -> usize
     put(out, g, (0x80 + c % 64) as u8)
 }
 
-// One character of a string more.
-fn put_char(out: &mut [u8; 512], n: usize, s: &[u8], from: usize) -> Progress
+// One character of a string more: how many bytes are held then, and the place behind it.
+fn put_char(out: &mut [u8; 512], n: usize, s: &[u8], from: usize) -> Option<(usize, usize)>
     ensures { PutsRead out.old n (read_at read_char s.now from) out.new result }
 {
-    if byte_at(s, from) == ESCAPE {
-        let Point::Code(c, i) = read_escape(s, from + 1) else {
-            return Progress::Stuck;
-        };
-        let m = put_code(out, n, c);
-        return Progress::On(m, i);
+    if byte_at(s, from) == Some(b'\\') {
+        let (c, i) = read_escape(s, from + 1)?;
+        return Some((put_code(out, n, c), i));
     }
-    let Next::At(j) = skip_unescaped(s, from) else {
-        return Progress::Stuck;
-    };
-    let m = put_part(out, n, s, from, j);
-    Progress::On(m, j)
+    let j = skip_unescaped(s, from)?;
+    Some((put_part(out, n, s, from, j), j))
 }
 
 // The string at a place, decoded: how many bytes are held, and the place behind it.
-pub fn decode_string(out: &mut [u8; 512], s: &[u8], from: usize) -> Progress
+pub fn decode_string(out: &mut [u8; 512], s: &[u8], from: usize) -> Option<(usize, usize)>
     ensures { PutsRead out.old 0 (read_at read_string s.now from) out.new result }
 {
-    if byte_at(s, from) != QUOTATION_MARK {
-        return Progress::Stuck;
+    if byte_at(s, from) != Some(b'"') {
+        return None;
     }
     let mut n = 0;
     let mut i = from + 1;
+    // character after character, each of which says where the next one begins
     loop {
-        if byte_at(s, i) == QUOTATION_MARK {
-            return Progress::On(n, i + 1);
+        if byte_at(s, i) == Some(b'"') {
+            return Some((n, i + 1));
         }
-        let Progress::On(m, j) = put_char(out, n, s, i) else {
-            return Progress::Stuck;
-        };
-        n = m;
-        i = j;
+        (n, i) = put_char(out, n, s, i)?;
     }
 }
 
@@ -101,16 +87,12 @@ pub fn decode_string(out: &mut [u8; 512], s: &[u8], from: usize) -> Progress
 pub fn is_name(s: &[u8], from: usize, name: &[u8]) -> bool
     ensures { result ≡ is_text (content_of (read_at read_string s.now from)) name.now }
 {
-    let mut d = Decoded {
-        bytes: [0u8; 512],
-        len: 0,
-    };
-    let Progress::On(n, _) = decode_string(&mut d.bytes, s, from) else {
+    let mut bytes = [0u8; 512];
+    let Some((n, _)) = decode_string(&mut bytes, s, from) else {
         return false;
     };
-    d.len = n;
-    if 512 < d.len {
+    if 512 < n {
         return false;
     }
-    ascii::equal(ascii::prefix(&d.bytes, d.len), name)
+    ascii::equal(ascii::prefix(&bytes, n), name)
 }

@@ -5,86 +5,50 @@ ghost use Rattle.json_text.specs.Reader.{got, many, one_of, optional};
 ghost use Rattle.json_text.specs.Lexical.{digits, int, frac, exp, read_number};
 ghost use Rattle.json_text.specs.code.Places.{read_at, place_of};
 
-use super::{Next, byte_at};
-
-const MINUS: u16 = b'-' as u16;
-
-const PLUS: u16 = b'+' as u16;
-
-const DECIMAL_POINT: u16 = b'.' as u16;
-
-const SMALL_E: u16 = b'e' as u16;
-
-const CAPITAL_E: u16 = b'E' as u16;
-
-const ZERO: u16 = b'0' as u16;
-
-const ONE: u16 = b'1' as u16;
-
-const NINE: u16 = b'9' as u16;
+use super::byte_at;
 
 pub fn skip_digits(s: &[u8], from: usize) -> usize
     ensures { read_at (many is_digit) s.now from ≡ got tt result }
 {
-    let mut i = from;
-    while i < s.len() {
-        if ascii::is_digit(s[i]) {
-            i += 1;
-        } else {
-            return i;
-        }
-    }
-    i
+    ascii::run_end(s, from, ascii::is_digit)
 }
 
-fn skip_some_digits(s: &[u8], from: usize) -> Next
+fn skip_some_digits(s: &[u8], from: usize) -> Option<usize>
     ensures { result ≡ place_of (read_at digits s.now from) }
 {
-    let b = byte_at(s, from);
-    if b < ZERO {
-        return Next::Bad;
+    match byte_at(s, from) {
+        Some(b'0'..=b'9') => Some(skip_digits(s, from + 1)),
+        _ => None,
     }
-    if b <= NINE {
-        return Next::At(skip_digits(s, from + 1));
-    }
-    Next::Bad
 }
 
 // int = zero / ( digit1-9 *DIGIT )
-fn skip_int(s: &[u8], from: usize) -> Next
+fn skip_int(s: &[u8], from: usize) -> Option<usize>
     ensures { result ≡ place_of (read_at int s.now from) }
 {
-    let b = byte_at(s, from);
-    if b == ZERO {
-        return Next::At(from + 1);
+    match byte_at(s, from) {
+        Some(b'0') => Some(from + 1),
+        Some(b'1'..=b'9') => Some(skip_digits(s, from + 1)),
+        _ => None,
     }
-    if b < ONE {
-        return Next::Bad;
-    }
-    if b <= NINE {
-        return Next::At(skip_digits(s, from + 1));
-    }
-    Next::Bad
 }
 
 // A dot without a digit behind it is not skipped: no text goes on with a dot.
 fn skip_frac(s: &[u8], from: usize) -> usize
     ensures { read_at (optional frac) s.now from ≡ got tt result }
 {
-    if byte_at(s, from) == DECIMAL_POINT {
-        let Next::At(j) = skip_some_digits(s, from + 1) else {
-            return from;
-        };
-        return j;
+    if byte_at(s, from) == Some(b'.') {
+        skip_some_digits(s, from + 1).unwrap_or(from)
+    } else {
+        from
     }
-    from
 }
 
 fn skip_sign(s: &[u8], from: usize) -> usize
     ensures { read_at (optional (one_of (text "+-"))) s.now from ≡ got tt result }
 {
     match byte_at(s, from) {
-        PLUS | MINUS => from + 1,
+        Some(b'+' | b'-') => from + 1,
         _ => from,
     }
 }
@@ -93,36 +57,24 @@ fn skip_exp(s: &[u8], from: usize) -> usize
     ensures { read_at (optional exp) s.now from ≡ got tt result }
 {
     match byte_at(s, from) {
-        CAPITAL_E | SMALL_E => {
-            let i = skip_sign(s, from + 1);
-            let Next::At(j) = skip_some_digits(s, i) else {
-                return from;
-            };
-            return j;
-        }
-        _ => {
-            return from;
-        }
+        Some(b'e' | b'E') => skip_some_digits(s, skip_sign(s, from + 1)).unwrap_or(from),
+        _ => from,
     }
 }
 
 fn skip_minus(s: &[u8], from: usize) -> usize
     ensures { read_at (optional (one_of (text "-"))) s.now from ≡ got tt result }
 {
-    if byte_at(s, from) == MINUS {
+    if byte_at(s, from) == Some(b'-') {
         from + 1
     } else {
         from
     }
 }
 
-pub fn skip_number(s: &[u8], from: usize) -> Next
+pub fn skip_number(s: &[u8], from: usize) -> Option<usize>
     ensures { result ≡ place_of (read_at read_number s.now from) }
 {
-    let i = skip_minus(s, from);
-    let Next::At(j) = skip_int(s, i) else {
-        return Next::Bad;
-    };
-    let k = skip_frac(s, j);
-    Next::At(skip_exp(s, k))
+    let i = skip_int(s, skip_minus(s, from))?;
+    Some(skip_exp(s, skip_frac(s, i)))
 }

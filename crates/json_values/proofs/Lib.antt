@@ -1,4 +1,5 @@
 pub mod Items
+pub mod Listing
 pub mod Values
 pub mod Sizes
 pub mod Rereads

@@ -1,9 +1,8 @@
 -- Texts that are written, read again.
-use Rattle.std.specs.Prelude.{if◌then◌else◌}
+use Rattle.std.specs.Prelude.{if◌then◌else◌, Some}
 use mathlib.Core.Path.{◌≡◌, refl, sym, ap, ◌∙◌}
 use mathlib.Core.List.{List, [], ◌∷◌, ◌++◌, append_assoc, append-nil}
 use mathlib.Core.Bool.{Bool, true, false, ◌&&◌, not, and-eq-true_iff}
-use mathlib.Core.Option.{some}
 use Prim.Native.Nat.{ℕ, zero, suc, ◌≤◌, ◌<◌}
 use native.Mathlib.Nat.{le_of_suc-le-suc, not-suc-le-zero}
 use native.Mathlib.Omega.{arith}
@@ -293,6 +292,6 @@ whole_reads x v h e =
     (rw (← append-nil x) (reads_bind _ _ x [] e (reads_bind _ _ [] [] (no_blanks [] (unfold is_blank peek in refl))
     (reads_bind _ _ [] [] end_reads (reads_give v [])))))
 
-pub text_reads : (x : Bytes) (v : Json) → is_blank (peek x) ≡ false → Reads (read_value 16) x v [] → read_json x ≡ some v
+pub text_reads : (x : Bytes) (v : Json) → is_blank (peek x) ≡ false → Reads (read_value 16) x v [] → read_json x ≡ Some v
 unfolding read_json value_read
 text_reads x v h e = let z : read_text x ≡ got v (length x) = rw (append-nil x) at (whole_reads x v h e).is in rw z

@@ -1,9 +1,8 @@
 -- A text is at least as long as what is read from it: the length bound behind the re-reading theorem.
-use Rattle.std.specs.Prelude.{if◌then◌else◌}
+use Rattle.std.specs.Prelude.{if◌then◌else◌, Option, None, Some}
 use mathlib.Core.Path.{◌≡◌, refl, ap}
 use mathlib.Core.List.{List, [], ◌∷◌, ◌++◌}
 use mathlib.Core.Bool.{Bool, true, false}
-use mathlib.Core.Option.{Option, none, some}
 use Prim.Native.Nat.{ℕ, zero, suc, ◌+◌, ◌≤◌, ◌<◌, max, suc-le-suc}
 use native.Mathlib.Omega.{arith}
 use lib.ListN.{length, drop, length-append, length-drop, length-take}
@@ -251,8 +250,8 @@ unfolding hex_digit peek hex_value one_byte
 hex_size m = record { at = go }
   where
     of_hex : (l : Bytes) (o : Option ℕ) → 1 ≤ length l → Within (λ v. m + 1) m l (one_byte o)
-    of_hex l (some v) h = (omega arith, h)
-    of_hex l none h = tt
+    of_hex l (Some v) h = (omega arith, h)
+    of_hex l None h = tt
 
     go : (l : Bytes) → Within (λ v. m + 1) m l (hex_digit l)
     go [] = tt
@@ -457,11 +456,11 @@ text_size =
     sized_give size q v (omega arith)
 
 -- what a text reads to is no larger than the text
-pub json_size : (s : Bytes) (v : Json) → read_json s ≡ some v → size v ≤ length s
+pub json_size : (s : Bytes) (v : Json) → read_json s ≡ Some v → size v ≤ length s
 unfolding read_json
 json_size s v e = go (read_text s) (text_size.at s) e
   where
-    go : (r : Read Json) → Within size 0 s r → value_read r ≡ some v → size v ≤ length s
+    go : (r : Read Json) → Within size 0 s r → value_read r ≡ Some v → size v ≤ length s
     go (got a n) h e = let z : a ≡ v = unfold value_read in cc in rw (← z) (omega arith)
     go bad h e = let z : ◌≡◌ {A = ℕ} 0 1 = unfold value_read in cc in absurd (omega arith)
 

@@ -1,9 +1,8 @@
 -- Testing UTF-8 inside strings is the same as testing the whole text first.
-use Rattle.std.specs.Prelude.{if◌then◌else◌}
+use Rattle.std.specs.Prelude.{if◌then◌else◌, Option, None, Some}
 use mathlib.Core.Path.{◌≡◌, refl, sym, ap, ◌∙◌}
 use mathlib.Core.List.{[], ◌∷◌, ◌++◌}
 use mathlib.Core.Bool.{Bool, true, false}
-use mathlib.Core.Option.{Option, none, some}
 use Prim.Native.Nat.{ℕ, zero, suc, ◌+◌, ◌≤◌, ◌<◌}
 use native.Mathlib.Omega.{arith}
 use borrow.Author.Tests.{le-leb, lt-leb, leb-true, leb-false, ne_eqb}
@@ -381,10 +380,10 @@ unfolding read_json raw_json is_utf8
 utf8_same s h = ap value_read (agree_text.at s h)
 
 -- `valid UTF-8 in the RFC 8259 grammar`: the whole text is tested, and then read
-pub utf8_first : (s : Bytes) → read_json s ≡ (if is_utf8 s then raw_json s else none)
+pub utf8_first : (s : Bytes) → read_json s ≡ (if is_utf8 s then raw_json s else None)
 utf8_first s = go (is_utf8 s) refl (read_json s) refl
   where
-    go : (t : Bool) → is_utf8 s ≡ t → (r : Option Json) → read_json s ≡ r → r ≡ (if t then raw_json s else none)
+    go : (t : Bool) → is_utf8 s ≡ t → (r : Option Json) → read_json s ≡ r → r ≡ (if t then raw_json s else None)
     go true e r f = sym f ∙ utf8_same s e
-    go false e none f = refl
-    go false e (some v) f = never e (readable_utf8 s v f)
+    go false e None f = refl
+    go false e (Some v) f = never e (readable_utf8 s v f)

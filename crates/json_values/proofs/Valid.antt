@@ -1,9 +1,8 @@
 -- A text that is read is UTF-8, byte by byte (RFC 3629): the strings' own tests suffice.
-use Rattle.std.specs.Prelude.{if◌then◌else◌}
+use Rattle.std.specs.Prelude.{if◌then◌else◌, Option, None, Some}
 use mathlib.Core.Path.{◌≡◌, refl, sym, ◌∙◌}
 use mathlib.Core.List.{[], ◌∷◌, ◌++◌}
 use mathlib.Core.Bool.{Bool, true, false, ◌&&◌, ◌||◌}
-use mathlib.Core.Option.{Option, none, some}
 use Prim.Native.Nat.{ℕ, zero, suc, ◌+◌, ◌-◌, ◌*◌, ◌≤◌, ◌<◌}
 use native.Mathlib.Omega.{arith}
 use borrow.Author.Tests.{le-leb, lt-leb, leb-true, eqb-true}
@@ -320,9 +319,9 @@ whole_hex : Whole hex_digit
 unfolding hex_digit hex_value one_byte peek
 whole_hex = record { at = go }
   where
-    hex_one : (l : Bytes) (o : Option ℕ) → ((v : ℕ) → o ≡ some v → utf8_from start l ≡ utf8_from start (drop 1 l)) → Goes start start l (one_byte o)
-    hex_one l (some v) h = h v refl
-    hex_one l none h = tt
+    hex_one : (l : Bytes) (o : Option ℕ) → ((v : ℕ) → o ≡ Some v → utf8_from start l ≡ utf8_from start (drop 1 l)) → Goes start start l (one_byte o)
+    hex_one l (Some v) h = h v refl
+    hex_one l None h = tt
 
     go : (l : Bytes) → Goes start start l (hex_digit l)
     go [] = tt
@@ -451,10 +450,10 @@ unfolding read_text
 whole_text = leads_bind ws _ whole_ws λ u. leads_bind (read_value 16) _ (whole_value 16) λ v. leads_bind ws _ whole_ws λ u. leads_bind end_of_text _ whole_end λ u. whole_give v
 
 -- a text that is read is UTF-8
-pub readable_utf8 : (s : Bytes) (v : Json) → read_json s ≡ some v → is_utf8 s ≡ true
+pub readable_utf8 : (s : Bytes) (v : Json) → read_json s ≡ Some v → is_utf8 s ≡ true
 unfolding read_json is_utf8 value_read
 readable_utf8 s v e = go (read_text s) (whole_text.at s) (ends_text s) e
   where
-    go : (r : Read Json) → Goes start start s r → Ends s r → value_read r ≡ some v → utf8_from start s ≡ true
+    go : (r : Read Json) → Goes start start s r → Ends s r → value_read r ≡ Some v → utf8_from start s ≡ true
     go (got a n) h k e = h ∙ k
     go bad h k e = let z : ◌≡◌ {A = ℕ} 0 1 = cc in absurd (omega arith)

@@ -1,6 +1,5 @@
 -- JSON texts (RFC 8259, sections 2 to 5), nested at most 16 deep as document 01 has it: a tree, and its reader.
-use Rattle.std.specs.Prelude.{List, [], ◌∷◌, ℕ, zero, suc}
-use Rattle.std.proofs.Math.Option.{Option, none, some}
+use Rattle.std.specs.Prelude.{List, [], ◌∷◌, ℕ, zero, suc, Option, None, Some}
 use Rattle.ascii.specs.Ascii.{Bytes, text}
 use Rattle.json_text.specs.Reader.{Read, got, bad, Reader, ◌>>=◌, ◌>>◌, give, fail, end_of_text, one_of, word, if_next◌then◌else◌, ◌giving◌, verbatim, counted}
 use Rattle.json_text.specs.Lexical.{ws, read_number, read_string}
@@ -96,8 +95,8 @@ read_text = do
   give v
 
 unfoldable pub value_read : Read Json → Option Json
-value_read (got v n) = some v
-value_read bad = none
+value_read (got v n) = Some v
+value_read bad = None
 
 -- none: unreadable
 unfoldable pub read_json : Bytes → Option Json

@@ -1,2 +1,3 @@
 pub mod Json
 pub mod RawJson
+pub mod code

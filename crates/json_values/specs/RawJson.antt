@@ -1,7 +1,6 @@
 -- The grammar without UTF-8: an unescaped character of a string is any one byte from 0x20 on but the quotation mark and the backslash.
 -- proofs/Utf8First.antt: read_json reads what this reads, where the whole text is UTF-8, and nothing else.
-use Rattle.std.specs.Prelude.{[], ◌++◌, ℕ, zero, suc}
-use Rattle.std.proofs.Math.Option.{Option}
+use Rattle.std.specs.Prelude.{[], ◌++◌, ℕ, zero, suc, Option}
 use Rattle.ascii.specs.Ascii.{Bytes, text}
 use Rattle.json_text.specs.Reader.{Reader, ◌>>=◌, ◌>>◌, give, fail, end_of_text, one_of, word, if_next◌then◌else◌, lead◌to◌then◌else◌, ◌giving◌, verbatim, counted}
 use Rattle.json_text.specs.Utf8.{encode_utf8}

@@ -1,4 +1,4 @@
-pub mod Laws
+pub mod FindLaws
 pub mod ClimbLaws
 pub mod RoundLaws
 pub mod LookLaws

@@ -1,3 +1,4 @@
 pub mod Answer
+pub mod Finds
 pub mod Span
 pub mod Search

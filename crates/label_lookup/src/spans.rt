@@ -9,8 +9,10 @@ ghost use Rattle.suffix.specs.code.Depth.{Good};
 ghost use Rattle.label_lookup.specs.code.Span.{Spans};
 ghost use Rattle.label_lookup.specs.code.Search.{Seeks, Sought};
 
-use crate::{kinds_for, name_deeper, wild_goes_deeper};
+use crate::form_deeper;
+use ascii::classes::Classes;
 use suffix::skips;
+use suffix::skips::Kinds;
 
 // Where lines of a table begin and end.
 #[derive(Clone, Copy)]
@@ -19,66 +21,43 @@ pub struct Span {
     pub to: usize,
 }
 
-// What is read of a good line has a rule that goes deeper than the label.
-fn rule_is_deeper(label: &[u8], w: &[u8]) -> bool
-    requires { Good w.now }
-    ensures { result ≡ deeper_in (labels label.now) (read_line w.now) }
-{
-    if w.len() == 0 {
-        return false;
-    }
-    if ascii::begins_with(w, b"//") {
-        return false;
-    }
-    if ascii::equal(w, b"*") {
-        return false;
-    }
-    if ascii::begins_with(w, b"*.") {
-        return wild_goes_deeper(label, &w[2..]);
-    }
-    if ascii::begins_with(w, b"!") {
-        return name_deeper(label, &w[1..]);
-    }
-    name_deeper(label, w)
-}
-
 // The good line at a place has one.
 fn line_is_deeper(label: &[u8], table: &[u8], at: usize) -> bool
     requires { Good (take_while in_content (drop at table.now)) × (at < length table.now) }
     ensures { result ≡ deeper_in (labels label.now) (read_line (take_while in_content (drop at table.now))) }
 {
     let to = suffix::short_content_end(table, at);
-    rule_is_deeper(label, &table[at..to])
+    form_deeper(label, &table[at..to])
 }
 
 // The first line from a place on that has a rule deeper than the label, whose labels are `count`; the table's end or behind it where
-// there is none. No rule that matches the label has more labels than these, so none stops the pass over other lines.
-fn next_deeper(kinds: &[u8; 256], label: &[u8], count: usize, table: &[u8], from: usize) -> usize
-    requires { Seeks kinds.now label.now table.now count from }
-    ensures { Sought label.now table.now (count - 1) from result }
+// there is none. No rule that matches the label has more labels than these, so none stops the pass over other lines. A loop, since
+// each turn begins where that pass stopped.
+fn next_deeper(kinds: &Kinds, count: usize, table: &[u8], from: usize) -> usize
+    requires { Seeks kinds.now.host.now table.now count from }
+    ensures { Sought kinds.now.host.now table.now (count - 1) from result }
 {
     let depth = count - 1;
-    let mut at = skips::idle_lines(kinds, label, count, depth, 0, table, from);
+    let mut at = skips::idle_lines(kinds, count, depth, 0, table, from);
     while at < table.len() {
-        if line_is_deeper(label, table, at) {
+        if line_is_deeper(kinds.host, table, at) {
             return at;
         }
         let next = skips::short_end(table, at) + 1;
-        at = skips::idle_lines(kinds, label, count, depth, 0, table, next);
+        at = skips::idle_lines(kinds, count, depth, 0, table, next);
     }
     at
 }
 
 // The span from the first line with a rule deeper than the label to the last one. A table without such a line, which no caller has,
-// is its own span.
+// is its own span. A loop, since each turn begins behind the line that the one before found.
 pub(crate) fn find_span(label: &[u8], table: &[u8]) -> Span
     requires { is_none (read_table table.now) ≡ false }
     ensures { Spans table.now label.now result.from result.to }
 {
-    let classes = ascii::classes();
-    let kinds = kinds_for(&classes, label);
-    let count = hosts::label_count(label);
-    let from = next_deeper(&kinds, label, count, table, 0);
+    let kinds = Kinds::new(&Classes::new(), label);
+    let count = hosts::label_count(kinds.host);
+    let from = next_deeper(&kinds, count, table, 0);
     if table.len() <= from {
         return Span {
             from: 0,
@@ -86,10 +65,11 @@ pub(crate) fn find_span(label: &[u8], table: &[u8]) -> Span
         };
     }
     let mut to = skips::line_end(table, from);
-    let mut at = next_deeper(&kinds, label, count, table, to + 1);
+    let mut at = next_deeper(&kinds, count, table, to + 1);
+    // a loop, since each turn begins behind the line that was found
     while at < table.len() {
         let end = skips::line_end(table, at);
-        at = next_deeper(&kinds, label, count, table, end + 1);
+        at = next_deeper(&kinds, count, table, end + 1);
         to = end;
     }
     Span { from, to }

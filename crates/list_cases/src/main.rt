@@ -1,9 +1,8 @@
 // Bodies on both sides of each bound of document 01, "The list": what is refused, or the first two selected entries, decoded.
 #![tactic(auto)]
 
-use json_text::{Next, Progress};
 use std::io;
-use trusted_list::Selection;
+use trusted_list::Version;
 
 fn write(rt: &impl Print, s: &[u8]) -> io::Result<()> {
     rt.write_all(s)
@@ -19,23 +18,23 @@ fn write_held(rt: &impl Print, bytes: &[u8; 512], n: usize) -> io::Result<()> {
 }
 
 // The entry at a place; returns the place of the next one.
-fn write_entry(rt: &impl Print, body: &[u8], at: usize) -> io::Result<Next> {
+fn write_entry(rt: &impl Print, body: &[u8], at: usize) -> io::Result<Option<usize>> {
     let mut bytes = [0u8; 512];
-    let Progress::On(n, j) = json_text::decoding::decode_string(&mut bytes, body, at) else {
-        return Ok(Next::Bad);
+    let Some((n, j)) = json_text::decoding::decode_string(&mut bytes, body, at) else {
+        return Ok(None);
     };
     write_held(rt, &bytes, n)?;
     Ok(trusted_list::next_entry(body, j))
 }
 
 fn write_entries(rt: &impl Print, body: &[u8], ids: usize) -> io::Result<()> {
-    let Next::At(a) = trusted_list::first_entry(body, ids) else {
+    let Some(a) = trusted_list::first_entry(body, ids) else {
         return write(rt, b" no entry");
     };
-    let Next::At(b) = write_entry(rt, body, a)? else {
+    let Some(b) = write_entry(rt, body, a)? else {
         return Ok(());
     };
-    let Next::At(_) = write_entry(rt, body, b)? else {
+    let Some(_) = write_entry(rt, body, b)? else {
         return Ok(());
     };
     write(rt, b" ..")
@@ -45,12 +44,12 @@ fn write_entries(rt: &impl Print, body: &[u8], ids: usize) -> io::Result<()> {
 fn show(rt: &impl Print, label: &[u8], body: &[u8]) -> io::Result<()> {
     write(rt, label)?;
     write(rt, b":")?;
-    match trusted_list::select(body, 1, 0) {
-        Selection::Refused(x) => {
+    match trusted_list::select(body, Version { major: 1, minor: 0 }) {
+        Err(x) => {
             write(rt, b" refused ")?;
-            rt.print(refusals::number(x))?;
+            rt.print(u16::from(x))?;
         }
-        Selection::Ids(ids) => {
+        Ok(ids) => {
             write_entries(rt, body, ids)?;
         }
     }

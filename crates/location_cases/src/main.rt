@@ -2,6 +2,7 @@
 // "returns the last redirect's part of the text, or the AppID where there is none, and an empty part unless the decision is fetch".
 #![tactic(auto)]
 
+use fetch_record::FetchRecord;
 use std::io;
 
 // Two Locations: the first 12 bytes and the last 13 of 25.
@@ -19,12 +20,13 @@ fn show<'a>(
     label: &[u8],
     caller: &[u8],
     appid: &'a [u8],
-    record: &[u8],
+    items: &[u8],
     text: &'a [u8],
 ) -> io::Result<()> {
     write(rt, label)?;
     write(rt, b": [")?;
-    write(rt, decision::fetch_location(caller, appid, record, text))?;
+    let record = FetchRecord { items, text };
+    write(rt, decision::fetch_location(caller, appid, record))?;
     write(rt, b"]\n")
 }
 

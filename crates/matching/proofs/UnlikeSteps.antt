@@ -1,16 +1,15 @@
 -- A quick test that two identifiers do not match.
-use Rattle.std.specs.Prelude.{if◌then◌else◌}
+use Rattle.std.specs.Prelude.{if◌then◌else◌, Option, None, Some}
 use mathlib.Core.Path.{◌≡◌, refl, sym, ap, ◌∙◌}
 use mathlib.Core.Bool.{Bool, true, false, ◌&&◌, ◌||◌, not, and-eq-true_iff}
 use mathlib.Core.List.{[], ◌∷◌}
-use mathlib.Core.Option.{Option, none, some}
-use Prim.Native.Nat.{ℕ, ◌+◌, ◌≤◌, ◌<◌}
+use Prim.Native.Nat.{ℕ, ◌+◌, ◌≤◌, ◌<◌, min, max}
 use native.Mathlib.Numerals.{add-one}
 use native.Mathlib.Omega.{arith}
 use lib.ListN.{length, get_or, drop, drop_of_length-le}
 use lib.Seq.{drop-cons}
-use lib.Dec.{eqb}
-use borrow.Author.Tests.{eq-eqb, ne_eqb, eqb-true}
+use lib.Dec.{eqb, leb}
+use borrow.Author.Tests.{eq-eqb, ne_eqb, eqb-true, leb-true, leb-false}
 use Rattle.ascii.specs.Ascii.{Bytes, ◌>>=◌, is_empty, take_while, drop_while, is_digit, is_upper, is_letter, lower_byte, lower, same, same_no_case, begins_with, text}
 use Rattle.ascii.proofs.Compare.{same_eq}
 use Rattle.ascii.proofs.OptionLaws.{Holds, holds}
@@ -44,59 +43,59 @@ module _ (x y : Bytes) {p : Bool} where
   unfolding apart
   apart_first e h = rw (sym e ∙ h)
 
-  pub apart_second : {q : Bool} → p ≡ may_end x → p ≡ true → q ≡ may_end y → q ≡ false → true ≡ apart x y
+  pub apart_second : {q : Bool} → p ≡ may_end x → p ≡ true → q ≡ may_end y → not q ≡ apart x y
   unfolding apart
-  apart_second e h f k = rw (sym e ∙ h, sym f ∙ k)
-
-  pub apart_not : {q : Bool} → p ≡ may_end x → p ≡ true → q ≡ may_end y → q ≡ true → false ≡ apart x y
-  unfolding apart
-  apart_not e h f k = rw (sym e ∙ h, sym f ∙ k)
+  apart_second e h f = rw (f, sym e ∙ h)
 
 -- ---- the loop
 
 -- from i on it is decided
 pub record Walks (x y : Bytes) (i : ℕ) : Type 0 where
+  pub most : i ≤ max (min (length x) (length y)) 8
   pub is : unlike (drop i x) (drop i y) ≡ unlike (drop 8 x) (drop 8 y)
 
 pub walk_starts : (x y : Bytes) → Walks x y 8
-walk_starts x y = record { is = refl }
+walk_starts x y = record { most = omega arith; is = refl }
 
 module _ {x y : Bytes} {i : ℕ} (W : Walks x y i) where
   done : {r : Bool} → unlike (drop i x) (drop i y) ≡ apart (drop i x) (drop i y) → r ≡ apart (drop i x) (drop i y) → r ≡ unlike (drop 8 x) (drop 8 y)
   done f e = e ∙ sym f ∙ W.is
 
-  pub walk_over : {r : Bool} → length x ≤ i → r ≡ apart (drop i x) (drop i y) → r ≡ unlike (drop 8 x) (drop 8 y)
-  walk_over h e = done (go h) e
+  -- one of them ends
+  pub walk_over : {m n : ℕ} {r : Bool} → m ≤ i → n ≡ min (length x) (length y) → m ≡ max n 8 → r ≡ apart (drop m x) (drop m y) → r ≡ unlike (drop 8 x) (drop 8 y)
+  walk_over {m = m} h k l e = let z : m ≡ i = omega (arith, W.most) in done (go (leb (length x) i) refl (leb (length y) i) refl) (rw z at e)
     where
-      go : length x ≤ i → unlike (drop i x) (drop i y) ≡ apart (drop i x) (drop i y)
-      go h = unfold unlike in rw (drop_of_length-le x h)
+      go : (u : Bool) → leb (length x) i ≡ u → (v : Bool) → leb (length y) i ≡ v → unlike (drop i x) (drop i y) ≡ apart (drop i x) (drop i y)
+      go true a v b = unfold unlike in rw (drop_of_length-le x (leb-true (length x) i a))
+      go false a true b = unfold unlike in rw (drop_of_length-le y (leb-true (length y) i b), drop-cons x i 0 (leb-false (length x) i a))
+      go false a false b = absurd (omega (arith, leb-false (length x) i a, leb-false (length y) i b))
 
-  module _ (h : i < length x) where
-    pub walk_past : {r : Bool} → length y ≤ i → r ≡ apart (drop i x) (drop i y) → r ≡ unlike (drop 8 x) (drop 8 y)
-    walk_past k e = done (go k) e
-      where
-        go : length y ≤ i → unlike (drop i x) (drop i y) ≡ apart (drop i x) (drop i y)
-        go k = unfold unlike in rw (drop_of_length-le y k, drop-cons x i 0 h)
+  module _ {m n : ℕ} (h : i < m) (k : n ≡ min (length x) (length y)) (l : m ≡ max n 8) (b : 8 ≤ i) where
+    pub walk_x : i < length x
+    walk_x = omega arith
 
-    module _ (k : i < length y) {p : Bool} (e : p ≡ is_stop (get_or x i 0)) where
+    pub walk_y : i < length y
+    walk_y = omega arith
+
+    module _ {p : Bool} (e : p ≡ is_stop (get_or x i 0)) where
       pub walk_stop : {r : Bool} → p ≡ true → r ≡ apart (drop i x) (drop i y) → r ≡ unlike (drop 8 x) (drop 8 y)
       walk_stop f g = done (go (sym e ∙ f)) g
         where
           go : is_stop (get_or x i 0) ≡ true → unlike (drop i x) (drop i y) ≡ apart (drop i x) (drop i y)
-          go u = unfold unlike in rw (drop-cons x i 0 h, drop-cons y i 0 k, u)
+          go u = unfold unlike in rw (drop-cons x i 0 walk_x, drop-cons y i 0 walk_y, u)
 
       module _ (f : p ≡ false) {q : Bool} (a : q ≡ eqb (lower_byte (get_or x i 0)) (lower_byte (get_or y i 0))) where
         pub walk_other : {r : Bool} → q ≡ false → r ≡ apart (drop i x) (drop i y) → r ≡ unlike (drop 8 x) (drop 8 y)
         walk_other b g = done (go (sym e ∙ f) (sym a ∙ b)) g
           where
             go : is_stop (get_or x i 0) ≡ false → eqb (lower_byte (get_or x i 0)) (lower_byte (get_or y i 0)) ≡ false → unlike (drop i x) (drop i y) ≡ apart (drop i x) (drop i y)
-            go u v = unfold unlike in rw (drop-cons x i 0 h, drop-cons y i 0 k, u, v)
+            go u v = unfold unlike in rw (drop-cons x i 0 walk_x, drop-cons y i 0 walk_y, u, v)
 
         pub walk_more : q ≡ true → Walks x y (i + 1)
-        walk_more b = record { is = sym (go (sym e ∙ f) (sym a ∙ b)) ∙ W.is }
+        walk_more b = record { most = omega arith; is = sym (go (sym e ∙ f) (sym a ∙ b)) ∙ W.is }
           where
             go : is_stop (get_or x i 0) ≡ false → eqb (lower_byte (get_or x i 0)) (lower_byte (get_or y i 0)) ≡ true → unlike (drop i x) (drop i y) ≡ unlike (drop (i + 1) x) (drop (i + 1) y)
-            go u v = unfold unlike in rw (add-one i, drop-cons x i 0 h, drop-cons y i 0 k, u, v)
+            go u v = unfold unlike in rw (add-one i, drop-cons x i 0 walk_x, drop-cons y i 0 walk_y, u, v)
 
 -- ---- what it tells
 
@@ -235,32 +234,32 @@ unfolding may_end begins_with is_stop
 shape_colon [] e = let w : ◌≡◌ {A = ℕ} 0 1 = cc in absurd (omega arith)
 shape_colon (b ∷ r) e = let z : b ≡ 58 = sym (eqb-true 58 b ((and-eq-true_iff (eqb 58 b) true).0 e).0) in rw z
 
-port_shape : (h r : Bytes) → Holds (Shape h r) (read_port h r >>= λ a. if is_empty a.tail || same a.tail (text "/") then some a else none)
+port_shape : (h r : Bytes) → Holds (Shape h r) (read_port h r >>= λ a. if is_empty a.tail || same a.tail (text "/") then Some a else None)
 unfolding read_port
 port_shape h r = go (begins_with (text ":") r) refl (is_port (take_while is_digit (drop 1 r)))
   where
-    last : (a : Authority) → a.host ≡ h → may_end r ≡ true → (u : Bool) → Holds (Shape h r) (if u then some a else none)
+    last : (a : Authority) → a.host ≡ h → may_end r ≡ true → (u : Bool) → Holds (Shape h r) (if u then Some a else None)
     last a e f true = (e, f)
     last a e f false = tt
 
-    bare : (u : Bool) → is_empty r || same r (text "/") ≡ u → Holds (Shape h r) (if u then some (record { host = h; port = []; tail = r }) else none)
+    bare : (u : Bool) → is_empty r || same r (text "/") ≡ u → Holds (Shape h r) (if u then Some (record { host = h; port = []; tail = r }) else None)
     bare true e = (refl, shape_end r e)
     bare false e = tt
 
     go : (t : Bool) → begins_with (text ":") r ≡ t → (u : Bool)
-        → Holds (Shape h r) ((if not t then some (record { host = h; port = []; tail = r }) else
-        if u then some (record { host = h; port = take_while is_digit (drop 1 r); tail = drop_while is_digit (drop 1 r) }) else none)
-        >>= λ a. if is_empty a.tail || same a.tail (text "/") then some a else none)
+        → Holds (Shape h r) ((if not t then Some (record { host = h; port = []; tail = r }) else
+        if u then Some (record { host = h; port = take_while is_digit (drop 1 r); tail = drop_while is_digit (drop 1 r) }) else None)
+        >>= λ a. if is_empty a.tail || same a.tail (text "/") then Some a else None)
     go false e u = bare (is_empty r || same r (text "/")) refl
     go true e true = last (record { host = h; port = take_while is_digit (drop 1 r); tail = drop_while is_digit (drop 1 r) }) refl (shape_colon r e) (is_empty (drop_while is_digit (drop 1 r)) || same (drop_while is_digit (drop 1 r)) (text "/"))
     go true e false = tt
 
-web_shape : (s : Bytes) (a : Authority) → web_origin s ≡ some a → Shape (host_of (drop 8 s)) (rest_of (drop 8 s)) a
+web_shape : (s : Bytes) (a : Authority) → web_origin s ≡ Some a → Shape (host_of (drop 8 s)) (rest_of (drop 8 s)) a
 unfolding web_origin read_https read_host
 web_shape s a e = go (begins_https s) (is_host (host_of (drop 8 s))) e
   where
-    go : (t u : Bool) → ((if t then (if u then read_port (host_of (drop 8 s)) (rest_of (drop 8 s)) else none) else none)
-        >>= λ a. if is_empty a.tail || same a.tail (text "/") then some a else none) ≡ some a → Shape (host_of (drop 8 s)) (rest_of (drop 8 s)) a
+    go : (t u : Bool) → ((if t then (if u then read_port (host_of (drop 8 s)) (rest_of (drop 8 s)) else None) else None)
+        >>= λ a. if is_empty a.tail || same a.tail (text "/") then Some a else None) ≡ Some a → Shape (host_of (drop 8 s)) (rest_of (drop 8 s)) a
     go true true e = holds (Shape (host_of (drop 8 s)) (rest_of (drop 8 s))) _ a (port_shape (host_of (drop 8 s)) (rest_of (drop 8 s))) e
     go true false e = let w : ◌≡◌ {A = ℕ} 0 1 = cc in absurd (omega arith)
     go false u e = let w : ◌≡◌ {A = ℕ} 0 1 = cc in absurd (omega arith)
@@ -282,16 +281,16 @@ module _ (s t : Bytes) (e : unlike (drop 8 s) (drop 8 t) ≡ true) where
   pub unlike_none : facet_matches s t ≡ false
   unlike_none = go (web_origin s) (web_origin t) refl refl
     where
-      by_hosts : (a b : Authority) → web_origin s ≡ some a → web_origin t ≡ some b → same_no_case a.host b.host ≡ false
+      by_hosts : (a b : Authority) → web_origin s ≡ Some a → web_origin t ≡ Some b → same_no_case a.host b.host ≡ false
       by_hosts a b f g =
           let A = web_shape s a f in
           let B = web_shape t b g in
           rw (A.0, B.0) (hosts_differ (drop 8 s) (drop 8 t) A.1 B.1 e)
 
       go : (o p : Option Authority) → web_origin s ≡ o → web_origin t ≡ p → facet_matches s t ≡ false
-      go none p f g = unfold facet_matches in rw f native_unlike
-      go (some a) none f g = unfold facet_matches same_origin in rw (f, g)
-      go (some a) (some b) f g = unfold facet_matches same_origin in rw (f, g, by_hosts a b f g)
+      go None p f g = unfold facet_matches in rw f native_unlike
+      go (Some a) None f g = unfold facet_matches same_origin in rw (f, g)
+      go (Some a) (Some b) f g = unfold facet_matches same_origin in rw (f, g, by_hosts a b f g)
 
 pub match_unlike : (s t : Bytes) {r : Bool} → r ≡ unlike (drop 8 s) (drop 8 t) → r ≡ true → false ≡ facet_matches s t
 match_unlike s t e h = sym (unlike_none s t (sym e ∙ h))

@@ -1,6 +1,5 @@
 -- When a caller matches the AppID or an entry (document 01, "Fetch record and decision", rules 3 and 4).
-use Rattle.std.specs.Prelude.{Bool, ◌&&◌, eqb, if◌then◌else◌}
-use Rattle.std.proofs.Math.Option.{Option}
+use Rattle.std.specs.Prelude.{Bool, ◌&&◌, eqb, if◌then◌else◌, Option}
 use Rattle.ascii.specs.Ascii.{Bytes, is_none, both_pass, same, same_no_case}
 use Rattle.origin.specs.Origin.{Authority, effective_port, web_origin}
 

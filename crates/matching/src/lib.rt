@@ -9,7 +9,7 @@ ghost use Rattle.matching.specs.Matching.{same_host, facet_matches};
 ghost use Rattle.matching.specs.code.AtPlaces.{same_at};
 ghost use Rattle.matching.specs.code.Unlike.{is_stop, may_end, apart, unlike};
 
-use origin::{Parts, Reading};
+use origin::Parts;
 
 // The hosts of x and y, which end at a and b, are equal without regard to case.
 fn equal_hosts(x: &[u8], a: usize, y: &[u8], b: usize) -> bool
@@ -23,10 +23,10 @@ fn equal_hosts(x: &[u8], a: usize, y: &[u8], b: usize) -> bool
 pub fn same_host(caller: &[u8], appid: &[u8]) -> bool
     ensures { result ≡ same_host (web_origin caller.now) (https_url appid.now) }
 {
-    let Reading::Found(p) = origin::web_origin(caller) else {
+    let Some(p) = origin::web_origin(caller) else {
         return false;
     };
-    let Reading::Found(q) = origin::https_url(appid) else {
+    let Some(q) = origin::https_url(appid) else {
         return false;
     };
     equal_hosts(caller, p.end, appid, q.end)
@@ -67,10 +67,7 @@ fn are_apart(x: &[u8], y: &[u8], at: usize) -> bool
     ensures { result ≡ apart (drop at x.now) (drop at y.now) }
 {
     if may_end(x, at) {
-        if may_end(y, at) {
-            return false;
-        }
-        return true;
+        return !may_end(y, at);
     }
     true
 }
@@ -79,21 +76,16 @@ fn are_apart(x: &[u8], y: &[u8], at: usize) -> bool
 fn are_unlike(x: &[u8], y: &[u8]) -> bool
     ensures { result ≡ unlike (drop 8 x.now) (drop 8 y.now) }
 {
-    let mut i = 8;
-    while i < x.len() {
-        if y.len() <= i {
-            return are_apart(x, y, i);
-        }
+    let end = x.len().min(y.len()).max(8);
+    for i in 8..end {
         if is_stop(x[i]) {
             return are_apart(x, y, i);
         }
-        if ascii::alike(x[i], y[i]) {
-            i += 1;
-        } else {
+        if !ascii::alike(x[i], y[i]) {
             return are_apart(x, y, i);
         }
     }
-    are_apart(x, y, i)
+    are_apart(x, y, end)
 }
 
 // A native caller equals the entry in bytes, a web caller by host and port.
@@ -103,10 +95,10 @@ pub fn matches(caller: &[u8], entry: &[u8]) -> bool
     if are_unlike(caller, entry) {
         return false;
     }
-    let Reading::Found(p) = origin::web_origin(caller) else {
+    let Some(p) = origin::web_origin(caller) else {
         return ascii::equal(caller, entry);
     };
-    let Reading::Found(q) = origin::web_origin(entry) else {
+    let Some(q) = origin::web_origin(entry) else {
         return false;
     };
     same_origin(caller, p, entry, q)

@@ -1,9 +1,8 @@
 -- Normal forms: read again, no longer, plain ASCII. Assumes nothing.
-use Rattle.std.specs.Prelude.{if◌then◌else◌}
+use Rattle.std.specs.Prelude.{if◌then◌else◌, Option, None, Some}
 use mathlib.Core.Path.{◌≡◌, refl, sym, ap, ◌∙◌}
 use mathlib.Core.List.{[], ◌∷◌, ◌++◌, append-nil}
 use mathlib.Core.Bool.{Bool, true, false, ◌||◌, and-eq-true_iff}
-use mathlib.Core.Option.{Option, none, some}
 use Prim.Native.Nat.{ℕ, ◌+◌, ◌≤◌}
 use native.Mathlib.Omega.{arith}
 use lib.ListN.{length, length-append}
@@ -18,14 +17,14 @@ use Rattle.normal_forms.specs.code.Normals.{is_hidden, normal_authority}
 
 -- ---- the two kinds
 
-pub own_normal : (s : Bytes) → web_origin s ≡ none → normal_form s ≡ s
+pub own_normal : (s : Bytes) → web_origin s ≡ None → normal_form s ≡ s
 unfolding normal_form normal_of
 own_normal s e = rw (e, normal_form)
 
 pub native_normal : (s : Bytes) → is_native s ≡ true → normal_form s ≡ s
 native_normal s e = own_normal s (native_no_web s e)
 
-pub web_normal : (s : Bytes) (a : Authority) → web_origin s ≡ some a → normal_form s ≡ normal_web a
+pub web_normal : (s : Bytes) (a : Authority) → web_origin s ≡ Some a → normal_form s ≡ normal_web a
 unfolding normal_form normal_of
 web_normal s a e = rw (e, normal_form)
 
@@ -35,8 +34,8 @@ pub normal_short : (s : Bytes) → length (normal_form s) ≤ length s
 normal_short s = go (web_origin s) refl
   where
     go : (o : Option Authority) → web_origin s ≡ o → length (normal_form s) ≤ length s
-    go none e = omega (arith, ap length (own_normal s e))
-    go (some a) e =
+    go None e = omega (arith, ap length (own_normal s e))
+    go (Some a) e =
         let n : length (normal_web a) ≡ 8 + length a.host + length (shown_port a.port) = web_size a in
         omega (arith, ap length (web_normal s a e), (origin_read s a e).long)
       where
@@ -78,7 +77,7 @@ module _ (a : Authority) (good_host : is_host a.host ≡ true) (host_bytes : all
   lower_bytes = all_lower is_host_byte is_host_byte_lem a.host ∙ host_bytes
 
   read_shown : (u : Bool) → is_hidden a.port ≡ u
-      → read_port (lower a.host) (if u then [] else text ":" ++ a.port) ≡ some (record { host = lower a.host; port = if u then [] else a.port; tail = [] })
+      → read_port (lower a.host) (if u then [] else text ":" ++ a.port) ≡ Some (record { host = lower a.host; port = if u then [] else a.port; tail = [] })
   unfolding read_port begins_with take_while drop_while is_hidden
   read_shown true e = refl
   read_shown false e =
@@ -99,20 +98,20 @@ module _ (a : Authority) (good_host : is_host a.host ≡ true) (host_bytes : all
   rest_part true = drop_append is_host_byte (lower a.host) [] lower_bytes
   rest_part false = drop_append is_host_byte (lower a.host) (text ":" ++ a.port) lower_bytes
 
-  host_reads : read_host (lower a.host ++ shown_port a.port) ≡ some (normal_authority a)
+  host_reads : read_host (lower a.host ++ shown_port a.port) ≡ Some (normal_authority a)
   unfolding read_host shown_port is_hidden normal_authority
   host_reads = rw (host_part (is_hidden a.port), rest_part (is_hidden a.port), is_host_lem, good_host) (read_shown (is_hidden a.port) refl)
 
-  https_reads : read_https (normal_web a) ≡ some (normal_authority a)
+  https_reads : read_https (normal_web a) ≡ Some (normal_authority a)
   unfolding read_https normal_web begins_https begins_with_no_case begins_with lower lower_byte is_upper
   https_reads = host_reads
 
-  web_reads : web_origin (normal_web a) ≡ some (normal_authority a)
+  web_reads : web_origin (normal_web a) ≡ Some (normal_authority a)
   unfolding web_origin normal_authority
   web_reads = rw https_reads
 
 -- what is read of the normal form of a web origin
-pub origin_normal : (s : Bytes) (a : Authority) → web_origin s ≡ some a → web_origin (normal_form s) ≡ some (normal_authority a)
+pub origin_normal : (s : Bytes) (a : Authority) → web_origin s ≡ Some a → web_origin (normal_form s) ≡ Some (normal_authority a)
 origin_normal s a e =
     let r = origin_read s a e in
     ap web_origin (web_normal s a e) ∙ web_reads a r.good_host r.host_bytes r.good_port
@@ -154,17 +153,17 @@ pub normal_twice : (s : Bytes) → normal_form (normal_form s) ≡ normal_form s
 normal_twice s = go (web_origin s) refl
   where
     go : (o : Option Authority) → web_origin s ≡ o → normal_form (normal_form s) ≡ normal_form s
-    go none e = ap normal_form (own_normal s e)
-    go (some a) e = web_normal (normal_form s) (normal_authority a) (origin_normal s a e) ∙ web_again a ∙ sym (web_normal s a e)
+    go None e = ap normal_form (own_normal s e)
+    go (Some a) e = web_normal (normal_form s) (normal_authority a) (origin_normal s a e) ∙ web_again a ∙ sym (web_normal s a e)
 
 -- ---- a facet again
 
 pub facet_normal : (s : Bytes) → is_facet s ≡ true → is_facet (normal_form s) ≡ true
 facet_normal s h = go (web_origin s) refl
   where
-    web : (t : Bytes) (b : Authority) → web_origin t ≡ some b → length t ≤ 512 → is_facet t ≡ true
+    web : (t : Bytes) (b : Authority) → web_origin t ≡ Some b → length t ≤ 512 → is_facet t ≡ true
     web t b e l = unfold is_facet in rw (e, le-leb (length t) 512 l)
 
     go : (o : Option Authority) → web_origin s ≡ o → is_facet (normal_form s) ≡ true
-    go none e = rw (own_normal s e) h
-    go (some a) e = web (normal_form s) (normal_authority a) (origin_normal s a e) (omega (arith, normal_short s, facet_short_enough s h))
+    go None e = rw (own_normal s e) h
+    go (Some a) e = web (normal_form s) (normal_authority a) (origin_normal s a e) (omega (arith, normal_short s, facet_short_enough s h))

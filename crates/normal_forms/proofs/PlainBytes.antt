@@ -1,9 +1,8 @@
 -- The normal form of a facet is printable ASCII that a JSON string holds as it is. Assumes nothing.
-use Rattle.std.specs.Prelude.{if◌then◌else◌}
+use Rattle.std.specs.Prelude.{if◌then◌else◌, Option, None, Some}
 use mathlib.Core.Path.{◌≡◌, refl, sym, ap, ◌∙◌}
 use mathlib.Core.List.{[], ◌++◌}
 use mathlib.Core.Bool.{Bool, true, false, ◌&&◌, ◌||◌, and-eq-true_iff}
-use mathlib.Core.Option.{Option, none, some}
 use Prim.Native.Nat.{ℕ, ◌≤◌}
 use native.Mathlib.Omega.{arith}
 use lib.ListN.{length, drop}
@@ -109,5 +108,5 @@ pub facet_plain : (s : Bytes) → is_facet s ≡ true → all is_plain_byte (nor
 facet_plain s h = go (web_origin s) refl
   where
     go : (o : Option Authority) → web_origin s ≡ o → all is_plain_byte (normal_form s) ≡ true
-    go none e = rw (own_normal s e) (native_plain s (facet_native_else s h e))
-    go (some a) e = rw (web_normal s a e) (web_plain a s (origin_read s a e))
+    go None e = rw (own_normal s e) (native_plain s (facet_native_else s h e))
+    go (Some a) e = rw (web_normal s a e) (web_plain a s (origin_read s a e))

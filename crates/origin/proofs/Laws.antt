@@ -1,13 +1,10 @@
 -- The rulesets of the crate: `laws` for most functions, a smaller one for `no_port`. Assumes nothing.
 use borrow.Author.Rules.{rules}
-use Rattle.ascii.proofs.Scan.{scan_end, scan_stop, scan_more, scan_from, scan_to}
+use Rattle.ascii.proofs.Scan.{scan_from, scan_to}
 use Rattle.origin.proofs.Steps.{https_is, native_android, native_ios, tail_slash, tail_question, host_class, key_alnum, key_plus, key_slash, tail_low, tail_high, tail_between, port_zero, port_number, end_none, end_some, tail_none, tail_begun, tail_other, android_length, android_other, android_hash, ios_short, ios_long, ios_other, ios_name, is_native_android, is_native_ios}
 use Rattle.origin.proofs.Readings.{digits_end, port_absent, port_at_end, port_no_colon, port_found, port_bad, host_ends, host_found, host_bad, https_long, https_found, https_none, found_tail, web_none, web_found, web_tail, url_none, url_found, url_tail, url_long, facet_long, facet_web, facet_native}
 
 pub ruleset laws = (
-  scan_end,
-  scan_stop,
-  scan_more,
   https_is,
   native_android,
   native_ios,

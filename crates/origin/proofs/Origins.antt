@@ -1,9 +1,8 @@
 -- What is known of a text that is read as a web origin or an HTTPS URL, and of native identities. Assumes nothing.
-use Rattle.std.specs.Prelude.{if◌then◌else◌}
+use Rattle.std.specs.Prelude.{if◌then◌else◌, Option, None, Some}
 use mathlib.Core.Path.{◌≡◌, refl, sym, ap, ap₂}
 use mathlib.Core.List.{[], ◌∷◌, ◌++◌}
 use mathlib.Core.Bool.{Bool, true, false, ◌&&◌, ◌||◌, not, or-true, and-eq-true_iff}
-use mathlib.Core.Option.{Option, none, some}
 use Prim.Native.Nat.{ℕ, ◌+◌, ◌≤◌}
 use native.Mathlib.Omega.{arith}
 use lib.ListN.{length, drop, length-append, length-drop}
@@ -53,8 +52,8 @@ unfolding read_port
 port_read host s = go (begins_with (text ":") s) refl (is_port (take_while is_digit (drop 1 s))) refl
   where
     go : (t : Bool) → begins_with (text ":") s ≡ t → (u : Bool) → is_port (take_while is_digit (drop 1 s)) ≡ u
-        → Holds (PortRead host s) (if not t then some (record { host = host; port = []; tail = s }) else
-        if u then some (record { host = host; port = take_while is_digit (drop 1 s); tail = drop_while is_digit (drop 1 s) }) else none)
+        → Holds (PortRead host s) (if not t then Some (record { host = host; port = []; tail = s }) else
+        if u then Some (record { host = host; port = take_while is_digit (drop 1 s); tail = drop_while is_digit (drop 1 s) }) else None)
     go false e u f = (refl, refl, unfold shown_port in omega arith, omega arith)
     go true e true f =
         (refl, rw (f, or-true), omega (arith, shown_length (take_while is_digit (drop 1 s)), while_split is_digit (drop 1 s), length-drop 1 s, begins_length (text ":") s e), omega (arith, while_split is_digit (drop 1 s), length-drop 1 s))
@@ -78,11 +77,11 @@ unfolding read_https read_host
 https_read s = go (begins_https s) refl (is_host (take_while is_host_byte (drop 8 s))) refl (read_port (take_while is_host_byte (drop 8 s)) (drop_while is_host_byte (drop 8 s))) (port_read (take_while is_host_byte (drop 8 s)) (drop_while is_host_byte (drop 8 s)))
   where
     go : (t : Bool) → begins_https s ≡ t → (u : Bool) → is_host (take_while is_host_byte (drop 8 s)) ≡ u → (o : Option Authority)
-        → Holds (PortRead (take_while is_host_byte (drop 8 s)) (drop_while is_host_byte (drop 8 s))) o → Holds (ReadOf s) (if t then (if u then o else none) else none)
+        → Holds (PortRead (take_while is_host_byte (drop 8 s)) (drop_while is_host_byte (drop 8 s))) o → Holds (ReadOf s) (if t then (if u then o else None) else None)
     go false b u e o h = tt
     go true b false e o h = tt
-    go true b true e none h = tt
-    go true b true e (some a) h = record {
+    go true b true e None h = tt
+    go true b true e (Some a) h = record {
       begins = b;
       good_host = rw h.0 e;
       host_bytes = rw h.0 (while_all is_host_byte (drop 8 s));
@@ -92,15 +91,15 @@ https_read s = go (begins_https s) refl (is_host (take_while is_host_byte (drop 
     }
 
 -- where a test of the tail stands behind the reading
-then_read : (s : Bytes) (o : Option Authority) (f : Bytes → Bool) → Holds (ReadOf s) o → Holds (ReadOf s) (o >>= λ a. if f a.tail then some a else none)
-then_read s none f h = tt
-then_read s (some a) f h = go (f a.tail)
+then_read : (s : Bytes) (o : Option Authority) (f : Bytes → Bool) → Holds (ReadOf s) o → Holds (ReadOf s) (o >>= λ a. if f a.tail then Some a else None)
+then_read s None f h = tt
+then_read s (Some a) f h = go (f a.tail)
   where
-    go : (u : Bool) → Holds (ReadOf s) (if u then some a else none)
+    go : (u : Bool) → Holds (ReadOf s) (if u then Some a else None)
     go true = h
     go false = tt
 
-pub origin_read : (s : Bytes) (a : Authority) → web_origin s ≡ some a → ReadOf s a
+pub origin_read : (s : Bytes) (a : Authority) → web_origin s ≡ Some a → ReadOf s a
 unfolding web_origin
 origin_read s a e = holds (ReadOf s) (web_origin s) a (then_read s (read_https s) (λ t. is_empty t || same t (text "/")) (https_read s)) e
 
@@ -139,18 +138,18 @@ native_not_https s e = go (begins_with android_prefix s) refl (begins_with ios_p
     go false f true g h = first_not 105 (text "os:bundle-id:") s g refl
     go false f false g h = let z : ◌≡◌ {A = ℕ} 0 1 = cc in absurd (omega arith)
 
-pub web_begins : (s : Bytes) (a : Authority) → web_origin s ≡ some a → begins_https s ≡ true
+pub web_begins : (s : Bytes) (a : Authority) → web_origin s ≡ Some a → begins_https s ≡ true
 web_begins s a e = (origin_read s a e).begins
 
-pub no_https_no_web : (s : Bytes) → begins_https s ≡ false → web_origin s ≡ none
+pub no_https_no_web : (s : Bytes) → begins_https s ≡ false → web_origin s ≡ None
 unfolding web_origin read_https
 no_https_no_web s e = rw e
 
-pub native_no_web : (s : Bytes) → is_native s ≡ true → web_origin s ≡ none
+pub native_no_web : (s : Bytes) → is_native s ≡ true → web_origin s ≡ None
 native_no_web s e = no_https_no_web s (native_not_https s (native_begins s e))
 
 -- a facet that is no web origin is a native identity
-pub facet_native_else : (s : Bytes) → is_facet s ≡ true → web_origin s ≡ none → is_native s ≡ true
+pub facet_native_else : (s : Bytes) → is_facet s ≡ true → web_origin s ≡ None → is_native s ≡ true
 unfolding is_facet
 facet_native_else s e h =
     let f : (leb (length s) 512 && is_native s) ≡ true = rw h at e in

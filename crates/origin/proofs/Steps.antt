@@ -1,19 +1,16 @@
 -- Single steps: bytes, prefixes, tails and native identities. Assumes nothing.
-use Rattle.std.specs.Prelude.{if◌then◌else◌}
+use Rattle.std.specs.Prelude.{if◌then◌else◌, Option, None}
 use mathlib.Core.Path.{◌≡◌, refl, ap, sym, ◌∙◌}
 use mathlib.Core.Bool.{Bool, true, false, ◌&&◌, ◌||◌, not, and-false, or-true, and-eq-true_iff}
 use mathlib.Core.List.{[], ◌∷◌}
 use Prim.Native.Nat.{ℕ, suc, ◌+◌, ◌≤◌, ◌<◌}
 use Prim.Native.Char.{code}
 use native.Mathlib.Omega.{arith}
-use lib.ListN.{length, get_or, drop, length-drop}
+use lib.ListN.{length, drop, length-drop}
 use lib.Dec.{eqb, leb, ltb}
 use borrow.Author.Tests.{eq-eqb, ne_eqb, lt-leb, le-leb, lt-ltb, le-ltb, eqb-true, eqb-false}
 use Rattle.ascii.specs.Ascii.{Bytes, all, take_while, is_digit, is_letter, is_upper, same, begins_with, begins_with_no_case, text, number16}
-use Rattle.ascii.specs.Class.{class_of, Classifies}
-use Rattle.ascii.specs.code.Numbers.{number_of}
-use Rattle.ascii.specs.declared.decimals.Number.{Number}
-use Rattle.ascii.specs.declared.decimals.Number.TheVariants.{Malformed}
+use Rattle.ascii.specs.Class.{class_of}
 use Rattle.ascii.proofs.Bytes.{agree}
 use Rattle.hosts.specs.Host.{is_label_byte}
 use Rattle.origin.specs.Origin.{begins_https, android_prefix, ios_prefix, begins_native, is_host_byte, is_key_hash_byte, is_android, is_ios, is_native, is_tail_byte, is_tail}
@@ -46,27 +43,27 @@ module _ (t : Bytes) {a : Bool} (e : a ≡ begins_with (text "/") t) where
 -- ---- byte classes
 
 -- the classes 0 to 3 are the host bytes
-pub host_class : (table : Bytes) (b : ℕ) → Classifies table → b < 256 → ltb (get_or table b 0) 4 ≡ is_host_byte b
+pub host_class : (b : ℕ) {c : ℕ} → b < 256 → c ≡ class_of b → ltb c 4 ≡ is_host_byte b
 unfolding class_of is_letter is_upper is_digit is_label_byte is_host_byte
-host_class table b C h = rw (C.is b h) (agree (λ k. ltb (class_of k) 4) is_host_byte tt b h)
+host_class b h e = rw e (agree (λ k. ltb (class_of k) 4) is_host_byte tt b h)
 
 letter_or_digit : (b : ℕ) → b < 256 → ltb (class_of b) 2 ≡ (is_letter b || is_digit b)
 unfolding class_of is_letter is_upper is_digit
 letter_or_digit = agree (λ k. ltb (class_of k) 2) (λ k. is_letter k || is_digit k) tt
 
-module _ (table : Bytes) (b : ℕ) (C : Classifies table) (h : b < 256) where
-  pub key_alnum : get_or table b 0 < 2 → true ≡ is_key_hash_byte b
+module _ (b : ℕ) {c : ℕ} (h : b < 256) (e : c ≡ class_of b) where
+  pub key_alnum : c < 2 → true ≡ is_key_hash_byte b
   unfolding is_key_hash_byte
-  key_alnum l = let e : ltb (class_of b) 2 ≡ true = rw (← C.is b h) (lt-ltb _ _ l) in rw (← letter_or_digit b h, e)
+  key_alnum l = let f : ltb (class_of b) 2 ≡ true = rw (← e) (lt-ltb _ _ l) in rw (← letter_or_digit b h, f)
 
-  module _ (l : 2 ≤ get_or table b 0) where
+  module _ (l : 2 ≤ c) where
     pub key_plus : b ≡ 43 → true ≡ is_key_hash_byte b
     unfolding is_key_hash_byte
-    key_plus e = rw (eq-eqb _ _ e, or-true)
+    key_plus k = rw (eq-eqb _ _ k, or-true)
 
     pub key_slash : (b ≡ 43 → ⊥) → eqb b 47 ≡ is_key_hash_byte b
     unfolding is_key_hash_byte
-    key_slash n = let e : ltb (class_of b) 2 ≡ false = rw (← C.is b h) (le-ltb _ _ l) in rw (← letter_or_digit b h, e, ne_eqb _ _ n)
+    key_slash n = let f : ltb (class_of b) 2 ≡ false = rw (← e) (le-ltb _ _ l) in rw (← letter_or_digit b h, f, ne_eqb _ _ n)
 
 pub tail_low : (b : ℕ) → b < 33 → false ≡ is_tail_byte b
 unfolding is_tail_byte
@@ -117,11 +114,11 @@ first_zero x [] e = e
 first_zero x (c ∷ p) e = rw ((and-eq-true_iff (eqb (code "0") c) (begins_with x p)).0 e).0
 
 -- any text that begins with a zero
-pub port_zero : (p x : Bytes) {a : Bool} → a ≡ begins_with (code "0" ∷ x) p → a ≡ true → Malformed ≡ port_of p
+pub port_zero : (p x : Bytes) {a : Bool} → a ≡ begins_with (code "0" ∷ x) p → a ≡ true → None ≡ port_of p
 unfolding port_of
 port_zero p x e h = rw (first_zero x p (sym e ∙ h))
 
-pub port_number : (p : Bytes) {a : Bool} {q : Number} → a ≡ begins_with (text "0") p → a ≡ false → q ≡ number_of (number16 p) → q ≡ port_of p
+pub port_number : (p : Bytes) {a : Bool} {q : Option ℕ} → a ≡ begins_with (text "0") p → a ≡ false → q ≡ number16 p → q ≡ port_of p
 unfolding port_of
 port_number p e h f = f ∙ rw (← e, h)
 

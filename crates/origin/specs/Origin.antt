@@ -1,6 +1,5 @@
 -- Web origins, native identities, facets, HTTPS URLs and normal forms (document 01, "Identifiers").
-use Rattle.std.specs.Prelude.{[], ◌++◌, Bool, ◌&&◌, ◌||◌, not, ℕ, length, drop, eqb, leb, if◌then◌else◌}
-use Rattle.std.proofs.Math.Option.{Option, none, some}
+use Rattle.std.specs.Prelude.{[], ◌++◌, Bool, ◌&&◌, ◌||◌, not, ℕ, length, drop, eqb, leb, if◌then◌else◌, Option, None, Some}
 use Prim.Native.Char.{code}
 use Rattle.ascii.specs.Ascii.{Bytes, ◌>>=◌, is_none, all, is_empty, take_while, drop_while, between, is_digit, is_letter, lower, same, begins_with, begins_with_no_case, text, value, number16}
 use Rattle.hosts.specs.Host.{is_host, is_label_byte}
@@ -27,25 +26,25 @@ effective_port p = if is_empty p then 443 else value p
 
 unfoldable pub read_port : Bytes → Bytes → Option Authority
 read_port host s =
-    if not (begins_with (text ":") s) then some (record { host = host; port = []; tail = s }) else
-    if is_port (take_while is_digit (drop 1 s)) then some (record { host = host; port = take_while is_digit (drop 1 s); tail = drop_while is_digit (drop 1 s) }) else
-    none
+    if not (begins_with (text ":") s) then Some (record { host = host; port = []; tail = s }) else
+    if is_port (take_while is_digit (drop 1 s)) then Some (record { host = host; port = take_while is_digit (drop 1 s); tail = drop_while is_digit (drop 1 s) }) else
+    None
 
 -- a byte of a host: of a label, or the dot between two
 unfoldable pub is_host_byte : ℕ → Bool
 is_host_byte b = is_label_byte b || eqb b (code ".")
 
 unfoldable pub read_host : Bytes → Option Authority
-read_host s = if is_host (take_while is_host_byte s) then read_port (take_while is_host_byte s) (drop_while is_host_byte s) else none
+read_host s = if is_host (take_while is_host_byte s) then read_port (take_while is_host_byte s) (drop_while is_host_byte s) else None
 
 unfoldable pub read_https : Bytes → Option Authority
-read_https s = if begins_https s then read_host (drop 8 s) else none
+read_https s = if begins_https s then read_host (drop 8 s) else None
 
 -- ---- web origins
 
 -- `https://`, a host, optionally a port, optionally one final `/`
 unfoldable pub web_origin : Bytes → Option Authority
-web_origin s = read_https s >>= λ a. if is_empty a.tail || same a.tail (text "/") then some a else none
+web_origin s = read_https s >>= λ a. if is_empty a.tail || same a.tail (text "/") then Some a else None
 
 -- ---- native identities
 
@@ -91,8 +90,8 @@ unfoldable pub normal_web : Authority → Bytes
 normal_web a = text "https://" ++ lower a.host ++ shown_port a.port
 
 unfoldable pub normal_of : Option Authority → Bytes → Bytes
-normal_of none s = s
-normal_of (some a) s = normal_web a
+normal_of None s = s
+normal_of (Some a) s = normal_web a
 
 -- a native identity is its own normal form
 unfoldable pub normal_form : Bytes → Bytes
@@ -110,4 +109,4 @@ is_tail t = is_empty t || ((begins_with (text "/") t || begins_with (text "?") t
 
 -- at most 2,048 bytes
 unfoldable pub https_url : Bytes → Option Authority
-https_url s = if leb (length s) 2048 then (read_https s >>= λ a. if is_tail a.tail then some a else none) else none
+https_url s = if leb (length s) 2048 then (read_https s >>= λ a. if is_tail a.tail then Some a else None) else None

@@ -1,14 +1,12 @@
 // Identifiers: web origins, native identities, facets, HTTPS URLs.
 #![tactic(auto)]
 
-ghost use Rattle.std.proofs.Math.Option.{some};
-ghost use Rattle.std.specs.Prelude.{◌≡◌, ◌+◌, ◌≤◌, length, drop};
+ghost use Rattle.std.specs.Prelude.{◌≡◌, ◌+◌, ◌≤◌, length, drop, Some};
 ghost use Rattle.ascii.specs.Ascii.{is_digit, take_while};
-ghost use Rattle.ascii.specs.Class.{Classifies};
 ghost use Rattle.origin.specs.Origin.{begins_https, begins_native, is_host_byte, read_port, read_host, read_https, web_origin, is_key_hash_byte, is_android, is_ios, is_native, is_facet, is_tail_byte, is_tail, https_url};
 ghost use Rattle.origin.specs.code.Parts.{part, is_end, begins_tail, port_of, without_port, HostEnd, Reads};
 
-use ascii::decimals::Number;
+use ascii::classes::Classes;
 
 // Where the parts of a text that begins `https://` stand: the host from 8 to end, then the port, then what is
 // left from tail on. The port is its number, 443 where it is absent.
@@ -17,12 +15,6 @@ pub struct Parts {
     pub end: usize,
     pub port: u16,
     pub tail: usize,
-}
-
-#[derive(Clone, Copy)]
-pub enum Reading {
-    Found(Parts),
-    Malformed,
 }
 
 pub fn begins_https(s: &[u8]) -> bool
@@ -41,58 +33,40 @@ pub fn begins_native(s: &[u8]) -> bool
     ascii::begins_with(s, b"ios:bundle-id:")
 }
 
-// A letter, digit, hyphen or dot. The class table is lent, here and below.
-fn is_host_byte(classes: &[u8; 256], b: u8) -> bool
-    requires { Classifies classes.now }
+// A letter, digit, hyphen or dot. The classes are lent, here and below.
+fn is_host_byte(classes: &Classes, b: u8) -> bool
     ensures { result ≡ is_host_byte b }
 {
     // 0 letters, 1 digits, 2 the hyphen, 3 the dot
-    classes[b as usize] < 4
+    classes.class_of(b) < 4
 }
 
 // The place behind the letters, digits, hyphens and dots at a place.
-fn host_stop(classes: &[u8; 256], s: &[u8], from: usize) -> usize
-    requires { Classifies classes.now }
+fn host_stop(classes: &Classes, s: &[u8], from: usize) -> usize
     ensures { result ≡ from + length (take_while is_host_byte (drop from s.now)) }
 {
-    let mut i = from;
-    while i < s.len() {
-        if is_host_byte(classes, s[i]) {
-            i += 1;
-        } else {
-            return i;
-        }
-    }
-    i
+    ascii::run_end(s, from, |b| is_host_byte(classes, b))
 }
 
 // The place behind the digits at a place.
 fn digits_stop(s: &[u8], from: usize) -> usize
     ensures { result ≡ from + length (take_while is_digit (drop from s.now)) }
 {
-    let mut i = from;
-    while i < s.len() {
-        if ascii::is_digit(s[i]) {
-            i += 1;
-        } else {
-            return i;
-        }
-    }
-    i
+    ascii::run_end(s, from, ascii::is_digit)
 }
 
 // 1 to 65535 without leading zero.
-fn port_number(p: &[u8]) -> Number
+fn port_number(p: &[u8]) -> Option<u16>
     ensures { result ≡ port_of p.now }
 {
     if ascii::begins_with(p, b"0") {
-        return Number::Malformed;
+        return None; // a leading zero
     }
     ascii::decimals::read_number(p)
 }
 
 // Behind the host: `:` and a port, or no port.
-fn read_port(s: &[u8], end: usize) -> Reading
+fn read_port(s: &[u8], end: usize) -> Option<Parts>
     requires { HostEnd s.now end }
     ensures { Reads s.now (read_port (part s.now 8 end) (drop end s.now)) result }
 {
@@ -104,17 +78,15 @@ fn read_port(s: &[u8], end: usize) -> Reading
     }
     let from = end + 1;
     let tail = digits_stop(s, from);
-    match port_number(&s[from..tail]) {
-        Number::Value(port) => Reading::Found(Parts { end, port, tail }),
-        Number::Malformed => Reading::Malformed,
-    }
+    let port = port_number(&s[from..tail])?;
+    Some(Parts { end, port, tail })
 }
 
-fn no_port(s: &[u8], end: usize) -> Reading
+fn no_port(s: &[u8], end: usize) -> Option<Parts>
     requires { HostEnd s.now end }
-    ensures { Reads s.now (some (without_port s.now end)) result }
+    ensures { Reads s.now (Some (without_port s.now end)) result }
 {
-    Reading::Found(Parts {
+    Some(Parts {
         end,
         port: 443,
         tail: end,
@@ -122,27 +94,23 @@ fn no_port(s: &[u8], end: usize) -> Reading
 }
 
 // Behind `https://`: a host, then the port.
-fn read_host(s: &[u8]) -> Reading
+fn read_host(s: &[u8]) -> Option<Parts>
     requires { 8 ≤ length s.now }
     ensures { Reads s.now (read_host (drop 8 s.now)) result }
 {
-    let classes = ascii::classes();
+    let classes = Classes::new();
     let end = host_stop(&classes, s, 8);
     if hosts::is_host(&s[8..end]) {
         read_port(s, end)
     } else {
-        Reading::Malformed
+        None
     }
 }
 
-fn read_https(s: &[u8]) -> Reading
+fn read_https(s: &[u8]) -> Option<Parts>
     ensures { Reads s.now (read_https s.now) result }
 {
-    if begins_https(s) {
-        read_host(s)
-    } else {
-        Reading::Malformed
-    }
+    if begins_https(s) { read_host(s) } else { None }
 }
 
 // Nothing, or one final `/`.
@@ -156,18 +124,12 @@ fn is_end(t: &[u8]) -> bool
 }
 
 // `https://`, a host, optionally a port, optionally one final `/`.
-pub fn web_origin(s: &[u8]) -> Reading
+pub fn web_origin(s: &[u8]) -> Option<Parts>
     ensures { Reads s.now (web_origin s.now) result }
 {
-    let Reading::Found(p) = read_https(s) else {
-        return Reading::Malformed;
-    };
+    let p = read_https(s)?;
     let tail = p.tail;
-    if is_end(&s[tail..]) {
-        Reading::Found(p)
-    } else {
-        Reading::Malformed
-    }
+    if is_end(&s[tail..]) { Some(p) } else { None }
 }
 
 // 0x21 to 0x7E without `#`.
@@ -187,15 +149,7 @@ fn is_tail_byte(b: u8) -> bool
 fn tail_stop(t: &[u8]) -> usize
     ensures { result ≡ length (take_while is_tail_byte t.now) }
 {
-    let mut i = 0;
-    while i < t.len() {
-        if is_tail_byte(t[i]) {
-            i += 1;
-        } else {
-            return i;
-        }
-    }
-    i
+    ascii::run_end(t, 0, is_tail_byte)
 }
 
 // The tail begins with `/` or `?`.
@@ -223,30 +177,23 @@ fn is_tail(t: &[u8]) -> bool
 }
 
 // `https://`, a host, optionally a port, and a tail, in at most 2,048 bytes.
-pub fn https_url(s: &[u8]) -> Reading
+pub fn https_url(s: &[u8]) -> Option<Parts>
     ensures { Reads s.now (https_url s.now) result }
 {
     if 2048 < s.len() {
-        return Reading::Malformed;
+        return None;
     }
-    let Reading::Found(p) = read_https(s) else {
-        return Reading::Malformed;
-    };
+    let p = read_https(s)?;
     let tail = p.tail;
-    if is_tail(&s[tail..]) {
-        Reading::Found(p)
-    } else {
-        Reading::Malformed
-    }
+    if is_tail(&s[tail..]) { Some(p) } else { None }
 }
 
 // A–Z a–z 0–9 + /
-fn is_key_hash_byte(classes: &[u8; 256], b: u8) -> bool
-    requires { Classifies classes.now }
+fn is_key_hash_byte(classes: &Classes, b: u8) -> bool
     ensures { result ≡ is_key_hash_byte b }
 {
     // a letter or a digit
-    if classes[b as usize] < 2 {
+    if classes.class_of(b) < 2 {
         return true;
     }
     if b == b'+' {
@@ -256,19 +203,10 @@ fn is_key_hash_byte(classes: &[u8; 256], b: u8) -> bool
 }
 
 // The place behind the bytes of a key hash at a place.
-fn key_hash_stop(classes: &[u8; 256], s: &[u8], from: usize) -> usize
-    requires { Classifies classes.now }
+fn key_hash_stop(classes: &Classes, s: &[u8], from: usize) -> usize
     ensures { result ≡ from + length (take_while is_key_hash_byte (drop from s.now)) }
 {
-    let mut i = from;
-    while i < s.len() {
-        if is_key_hash_byte(classes, s[i]) {
-            i += 1;
-        } else {
-            return i;
-        }
-    }
-    i
+    ascii::run_end(s, from, |b| is_key_hash_byte(classes, b))
 }
 
 // Exactly 27 characters behind the prefix of 21: 48 bytes.
@@ -279,7 +217,7 @@ pub fn is_android(s: &[u8]) -> bool
         return false;
     }
     if ascii::begins_with(s, b"android:apk-key-hash:") {
-        let classes = ascii::classes();
+        let classes = Classes::new();
         key_hash_stop(&classes, s, 21) == s.len()
     } else {
         false
@@ -297,7 +235,7 @@ pub fn is_ios(s: &[u8]) -> bool
         return false;
     }
     if ascii::begins_with(s, b"ios:bundle-id:") {
-        let classes = ascii::classes();
+        let classes = Classes::new();
         host_stop(&classes, s, 14) == s.len()
     } else {
         false
@@ -320,7 +258,7 @@ pub fn is_facet(s: &[u8]) -> bool
     if 512 < s.len() {
         return false;
     }
-    if let Reading::Found(_) = web_origin(s) {
+    if web_origin(s).is_some() {
         return true;
     }
     is_native(s)

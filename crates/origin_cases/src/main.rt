@@ -3,11 +3,8 @@
 // holds what document 01 says of each.
 #![tactic(auto)]
 
-ghost use Rattle.std.specs.Prelude.{◌≤◌, length};
-ghost use Rattle.origin_cases.specs.Lines.{Between};
-
 use full_reads::read_full;
-use origin::Reading;
+use origin::Parts;
 use std::io;
 
 mod forms;
@@ -20,12 +17,8 @@ fn mark(rt: &impl Print, yes: bool, letter: &[u8]) -> io::Result<()> {
     if yes { put(rt, letter) } else { put(rt, b"-") }
 }
 
-fn found(rt: &impl Print, r: Reading, letter: &[u8]) -> io::Result<()> {
-    if let Reading::Found(_) = r {
-        put(rt, letter)
-    } else {
-        put(rt, b"-")
-    }
+fn found(rt: &impl Print, r: Option<Parts>, letter: &[u8]) -> io::Result<()> {
+    mark(rt, r.is_some(), letter)
 }
 
 fn begins(rt: &impl Print, s: &[u8]) -> io::Result<()> {
@@ -63,28 +56,11 @@ fn fill(s: &mut [u8]) {
     }
 }
 
-fn line_end(s: &[u8], from: usize) -> usize
-    requires { from ≤ length s.now }
-    ensures { Between from result (length s.now) }
-{
-    let mut i = from;
-    while i < s.len() {
-        if s[i] == 10 {
-            return i;
-        }
-        i += 1;
-    }
-    i
-}
-
 // Each line of s.
 fn lines(rt: &impl Print, s: &[u8]) -> io::Result<()> {
-    let mut from = 0;
-    while from < s.len() {
-        let to = line_end(s, from);
-        let line = &s[from..to];
+    for line in s.split_inclusive(|b| *b == b'\n') {
+        let line = line.strip_suffix(b"\n").unwrap_or(line);
         named(rt, line, line)?;
-        from = to + 1;
     }
     Ok(())
 }

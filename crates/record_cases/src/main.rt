@@ -1,7 +1,7 @@
 // Runs records on both sides of each bound of document 01, "Fetch record and decision", and writes what each settles.
 #![tactic(auto)]
 
-use fetch_record::{Outcome, Target};
+use fetch_record::FetchRecord;
 use std::io;
 
 // Two Locations: the first 12 bytes and the last 13 of 25.
@@ -19,26 +19,28 @@ fn write(rt: &impl Print, s: &[u8]) -> io::Result<()> {
 }
 
 // The part of the text that is to be fetched.
-fn write_target(rt: &impl Print, record: &[u8], text: &[u8]) -> io::Result<()> {
-    if let Target::Part(a, b) = fetch_record::last_location(record, text) {
+fn write_target(rt: &impl Print, record: FetchRecord) -> io::Result<()> {
+    if let Some(part) = record.last_location() {
+        let text = record.text;
         write(rt, b" ")?;
-        write(rt, &text[a..b])?;
+        write(rt, &text[part.from..part.to])?;
     }
     Ok(())
 }
 
-fn show(rt: &impl Print, label: &[u8], record: &[u8], text: &[u8]) -> io::Result<()> {
+fn show(rt: &impl Print, label: &[u8], items: &[u8], text: &[u8]) -> io::Result<()> {
+    let record = FetchRecord { items, text };
     write(rt, label)?;
-    match fetch_record::fetching(record, text) {
-        Outcome::Refused(r) => {
+    match record.fetching() {
+        Err(r) => {
             write(rt, b": refused ")?;
-            rt.print(refusals::number(r))?;
+            rt.print(u16::from(r))?;
         }
-        Outcome::Fetch => {
+        Ok(None) => {
             write(rt, b": fetch")?;
-            write_target(rt, record, text)?;
+            write_target(rt, record)?;
         }
-        Outcome::Answered(a) => {
+        Ok(Some(a)) => {
             write(rt, b": answer ")?;
             rt.print(a.status)?;
             if a.type_seen {

@@ -1,24 +1,23 @@
 -- Byte classes, runs of bytes, blanks at the end, and forms. Assumes nothing.
-use mathlib.Core.Path.{◌≡◌, refl, sym, ◌∙◌}
+use mathlib.Core.Path.{◌≡◌, sym, ◌∙◌}
 use mathlib.Core.Bool.{Bool, true, false, ◌&&◌, ◌||◌, not, and-true, and-false}
 use mathlib.Core.List.{[], ◌∷◌, ◌++◌}
 use Prim.Native.Nat.{ℕ, suc, ◌+◌, ◌-◌, ◌≤◌, ◌<◌}
-use native.Mathlib.Numerals.{add-one}
 use native.Mathlib.Omega.{arith}
-use lib.ListN.{length, get_or, take, drop, length-drop, drop_of_length-le}
-use lib.Seq.{drop-cons, take-suc, take_all, get_or-drop}
+use lib.ListN.{length, get_or, take, drop, length-drop}
+use lib.Seq.{take-suc, take_all, get_or-drop}
 use lib.Dec.{eqb, leb, ltb}
 use borrow.Author.Rules.{rules}
 use borrow.Author.Tests.{eq-eqb, ne_eqb, lt-ltb, le-leb}
-use Rattle.ascii.specs.Ascii.{Bytes, all, among, is_digit, is_letter, is_upper, lower_byte, text}
-use Rattle.ascii.proofs.Bytes.{agree_where}
+use Rattle.std.specs.Prelude.{nat_eq}
+use Rattle.std.specs.Char.{is_ascii_alphanumeric}
+use Rattle.std.specs.List.{list_any}
+use Rattle.ascii.specs.Ascii.{Bytes, all, is_digit, is_letter, is_upper, text}
+use Rattle.ascii.proofs.Bytes.{agree, agree_where}
 use Rattle.ascii.proofs.ListLaws.{all_both}
 use Rattle.ascii.proofs.Compare.{by_starts, by_ends, by_differs, by_more}
-use Rattle.ascii.proofs.Scan.{scan_end, scan_stop, scan_more}
 use Rattle.response_head.specs.ResponseHead.{is_blank, is_text_byte, is_tchar, trim_end, fits_byte}
-use Rattle.response_head.specs.code.Meaning.{is_alphanumeric, in_run, Trims}
-use Rattle.response_head.specs.declared.Run.{Run}
-use Rattle.response_head.specs.declared.Run.TheVariants.{Blank, Text, Tchar, Other}
+use Rattle.response_head.specs.code.Meaning.{Trims}
 
 -- ---- classes
 
@@ -39,67 +38,17 @@ module _ (b : ℕ) (h : b < 256) where
   unfolding is_text_byte is_blank
   text_high l = agree_where (λ k. leb 32 k) (λ k. not (eqb k 127)) is_text_byte tt b h (le-leb 32 b l)
 
-  pub alphanumeric_low : b < 48 → false ≡ is_alphanumeric b
-  unfolding is_alphanumeric is_letter is_upper is_digit
-  alphanumeric_low l = agree_where (λ k. ltb k 48) (λ k. false) is_alphanumeric tt b h (lt-ltb b 48 l)
+-- a letter or digit, or one of these marks
+module _ (b : ℕ) (h : b < 256) where
+  tchar_is : (is_ascii_alphanumeric b || list_any (λ y. nat_eq y b) (text "!#$%&'*+-.^_`|~")) ≡ is_tchar b
+  unfolding is_tchar is_digit is_letter is_upper
+  tchar_is = agree (λ k. is_ascii_alphanumeric k || list_any (λ y. nat_eq y k) (text "!#$%&'*+-.^_`|~")) is_tchar tt b h
 
-  pub alphanumeric_digit : 48 ≤ b → b ≤ 57 → true ≡ is_alphanumeric b
-  unfolding is_alphanumeric is_letter is_upper is_digit
-  alphanumeric_digit l u = agree_where (λ k. leb 48 k && leb k 57) (λ k. true) is_alphanumeric tt b h (rw (le-leb 48 b l, le-leb b 57 u))
+  pub tchar_alphanumeric : {q : Bool} → q ≡ is_ascii_alphanumeric b → q ≡ true → true ≡ is_tchar b
+  tchar_alphanumeric e f = (rw (← e, f)) ∙ tchar_is
 
-  module _ {c : ℕ} (l : 57 < b) (e : c ≡ lower_byte b) where
-    pub alphanumeric_other : c < 97 → false ≡ is_alphanumeric b
-    unfolding is_alphanumeric is_letter is_upper is_digit lower_byte
-    alphanumeric_other u =
-        agree_where (λ k. ltb 57 k && ltb (lower_byte k) 97) (λ k. false) is_alphanumeric tt b h (rw (lt-ltb 57 b l, lt-ltb (lower_byte b) 97 (rw e at u)))
-
-    pub alphanumeric_letter : 97 ≤ c → leb c 122 ≡ is_alphanumeric b
-    unfolding is_alphanumeric is_letter is_upper is_digit lower_byte
-    alphanumeric_letter u =
-        (rw e) ∙ agree_where (λ k. ltb 57 k && leb 97 (lower_byte k)) (λ k. leb (lower_byte k) 122) is_alphanumeric tt b h (rw (lt-ltb 57 b l, le-leb 97 (lower_byte b) (rw e at u)))
-
-module _ (marks : Bytes) (b i : ℕ) {goal : Bool} (e : among (drop i marks) b ≡ goal) where
-  pub among_end : length marks ≤ i → false ≡ goal
-  among_end h = sym (rw (drop_of_length-le marks h)) ∙ e
-
-  module _ (h : i < length marks) where
-    pub among_here : b ≡ get_or marks i 0 → true ≡ goal
-    among_here k = sym (rw (drop-cons marks i 0 h, eq-eqb b (get_or marks i 0) k)) ∙ e
-
-    pub among_more : (b ≡ get_or marks i 0 → ⊥) → among (drop (i + 1) marks) b ≡ goal
-    among_more n = sym (rw (drop-cons marks i 0 h, ne_eqb b (get_or marks i 0) n, add-one)) ∙ e
-
-module _ (b : ℕ) {q : Bool} (e : q ≡ is_alphanumeric b) where
-  pub tchar_alphanumeric : q ≡ true → true ≡ is_tchar b
-  unfolding is_tchar is_alphanumeric
-  tchar_alphanumeric f = go (among (text "!#$%&'*+-.^_`|~") b) (is_digit b) (is_letter b) (sym e ∙ f)
-    where
-      go : (u v w : Bool) → (v || w) ≡ true → true ≡ (u || v || w)
-      go true v w p = refl
-      go false v w p = sym p
-
-  pub tchar_mark : {r : Bool} → q ≡ false → r ≡ among (text "!#$%&'*+-.^_`|~") b → r ≡ is_tchar b
-  unfolding is_tchar is_alphanumeric
-  tchar_mark f g = g ∙ go (among (text "!#$%&'*+-.^_`|~") b) (is_digit b) (is_letter b) (sym e ∙ f)
-    where
-      go : (u v w : Bool) → (v || w) ≡ false → u ≡ (u || v || w)
-      go true v w p = refl
-      go false v w p = sym p
-
--- ---- runs
-
-module _ {run : Run} (b : ℕ) {r : Bool} where
-  pub in_blank : run ≡ Blank → r ≡ is_blank b → r ≡ in_run run b
-  in_blank e f = f ∙ rw e
-
-  pub in_text_lem : run ≡ Text → r ≡ is_text_byte b → r ≡ in_run run b
-  in_text_lem e f = f ∙ rw e
-
-  pub in_tchar : run ≡ Tchar → r ≡ is_tchar b → r ≡ in_run run b
-  in_tchar e f = f ∙ rw e
-
-pub in_other : {run : Run} (b d : ℕ) → run ≡ Other d → not (eqb b d) ≡ in_run run b
-in_other b d e = rw e
+  pub tchar_mark : {q r : Bool} → q ≡ is_ascii_alphanumeric b → q ≡ false → r ≡ list_any (λ y. nat_eq y b) (text "!#$%&'*+-.^_`|~") → r ≡ is_tchar b
+  tchar_mark e f g = g ∙ (rw (← e, f)) ∙ tchar_is
 
 -- ---- blanks at the end
 
@@ -131,11 +80,12 @@ trim_starts s from h = record {
 }
 
 module _ {s : Bytes} {from end : ℕ} (R : Trimming s from end) where
-  pub trim_none : end ≤ from → Trims s from end
+  pub trim_none : end ≤ from → Trims s from from
   unfolding trim_end
   trim_none h =
-      let z : end - from ≡ 0 = omega arith in
-      record { low = R.low; high = R.high; is = (rw z) ∙ R.is }
+      let z : end ≡ from = omega (arith, R.low) in
+      let y : from - from ≡ 0 = omega arith in
+      record { low = omega arith; high = omega (arith, R.low, R.high); is = (rw y) ∙ rw (z, y) at R.is }
 
   module _ (h : from < end) where
     last_is : take (end - from) (drop from s) ≡ take (end - 1 - from) (drop from s) ++ (get_or s (end - 1) 0 ∷ [])
@@ -170,7 +120,7 @@ pub fits_other : (p b : ℕ) → (p ≡ 48 → ⊥) → eqb b p ≡ fits_byte p 
 unfolding fits_byte
 fits_other p b n = rw (ne_eqb p 48 n)
 
-pub ruleset byte_laws = (blank_space, blank_tab, text_low, text_high, alphanumeric_low, alphanumeric_digit, alphanumeric_other, alphanumeric_letter, among_end, among_here, among_more, tchar_alphanumeric, tchar_mark, in_blank, in_text_lem, in_tchar, in_other, scan_end, scan_stop, scan_more, trim_starts, trim_none, trim_more, trim_ends, fits_digit, fits_other, by_starts, by_ends, by_differs, by_more, rules)
+pub ruleset byte_laws = (blank_space, blank_tab, text_low, text_high, tchar_alphanumeric, tchar_mark, trim_starts, trim_none, trim_more, trim_ends, fits_digit, fits_other, by_starts, by_ends, by_differs, by_more, rules)
 
 -- for a return: its law alone, so that a search that finds nothing ends
 pub ruleset mark_laws = (tchar_mark)

@@ -1,9 +1,8 @@
 -- One status line, one field line, one field more. Assumes nothing.
-use Rattle.std.specs.Prelude.{if◌then◌else◌}
+use Rattle.std.specs.Prelude.{if◌then◌else◌, Option, None, Some, unwrap_or}
 use mathlib.Core.Path.{◌≡◌, refl, sym, ◌∙◌}
 use mathlib.Core.Bool.{Bool, true, false, ◌&&◌, not, and-true, and-false, and-eq-true_iff}
 use mathlib.Core.List.{[], ◌∷◌, ◌++◌}
-use mathlib.Core.Option.{none}
 use Prim.Native.Nat.{ℕ, ◌+◌, ◌-◌, ◌≤◌, ◌<◌}
 use native.Mathlib.Omega.{arith}
 use lib.ListN.{length, get_or, take, drop, drop_of_length-le, take-append-drop}
@@ -12,18 +11,12 @@ use lib.Dec.{eqb, leb}
 use borrow.Author.Rules.{rules}
 use borrow.Author.Tests.{ne_eqb, eqb-true, leb-true}
 use Rattle.ascii.specs.Ascii.{Bytes, ◌when◌, all, is_empty, take_while, drop_while, among, is_digit, is_letter, is_upper, same, same_no_case, begins_with, begins_by, text, number16}
-use Rattle.ascii.specs.code.Numbers.{number_of}
-use Rattle.ascii.specs.declared.decimals.Number.{Number}
-use Rattle.ascii.specs.declared.decimals.Number.TheVariants.{Malformed}
 use Rattle.ascii.proofs.Bytes.{implies, each, passes, digit_small, letter_small}
 use Rattle.ascii.proofs.Compare.{by_short}
 use Rattle.ascii.proofs.ListLaws.{all_append, all_weaker, all_drop, empty_is, empty_not}
 use Rattle.ascii.proofs.Scan.{while_all, while_rest, while_part, while_length, scan_to, scan_rest}
 use Rattle.response_head.specs.ResponseHead.{is_blank, is_text_byte, is_tchar, is_other, fits_byte, fits_form, status_form, read_status, trim_end, trim, Field, field_of, read_field, is_list_type, is_true, authorized_name, type_name, location_name}
-use Rattle.response_head.specs.code.Meaning.{Trims, field_in, no_field, field, ReadsField, first_by, is_right, place_by, seen_with}
-use Rattle.response_head.specs.declared.FieldLine.TheVariants.{Parts, Malformed as NoField}
-use Rattle.response_head.specs.declared.First.{First}
-use Rattle.response_head.specs.declared.First.TheVariants.{Unseen, Right, Wrong}
+use Rattle.response_head.specs.code.Meaning.{Trims, field_in, no_field, field, ReadsField, first_by, place_by, seen_with}
 use Rattle.response_head.specs.declared.Place.{Place}
 use Rattle.response_head.specs.declared.Place.TheVariants.{Nowhere, Between, Several}
 use Rattle.response_head.specs.declared.Seen.{Seen}
@@ -72,11 +65,11 @@ unfolding all is_text_byte is_blank
 status_text = refl
 
 -- a line that holds another byte is neither
-pub no_status : (l : Bytes) → all is_text_byte l ≡ false → read_status l ≡ none
+pub no_status : (l : Bytes) → all is_text_byte l ≡ false → read_status l ≡ None
 unfolding read_status
 no_status l e = go (fits_form status_form l) (all is_text_byte (drop 13 l)) refl refl
   where
-    go : (u v : Bool) → fits_form status_form l ≡ u → all is_text_byte (drop 13 l) ≡ v → (if u && v then number16 (take 3 (drop 9 l)) else none) ≡ none
+    go : (u v : Bool) → fits_form status_form l ≡ u → all is_text_byte (drop 13 l) ≡ v → (if u && v then number16 (take 3 (drop 9 l)) else None) ≡ None
     go false v f g = refl
     go true false f g = refl
     go true true f g =
@@ -88,11 +81,11 @@ unfolding all begins_with is_text_byte is_blank
 colon_text [] b e = refl
 colon_text (c ∷ r) b e = let z : 58 ≡ c = eqb-true 58 c (sym (and-true (eqb 58 c)) ∙ b) in rw (← z, e)
 
-pub no_field_line : (l : Bytes) → all is_text_byte l ≡ false → read_field l ≡ none
+pub no_field_line : (l : Bytes) → all is_text_byte l ≡ false → read_field l ≡ None
 unfolding read_field field_of
 no_field_line l e = go (record { name = take_while is_tchar l; value = trim (drop 1 (drop_while is_tchar l)) }) (not (is_empty (take_while is_tchar l))) (begins_with (text ":") (drop_while is_tchar l)) (all is_text_byte (drop 1 (drop_while is_tchar l))) refl refl
   where
-    go : (x : Field) (u v w : Bool) → begins_with (text ":") (drop_while is_tchar l) ≡ v → all is_text_byte (drop 1 (drop_while is_tchar l)) ≡ w → (x when (u && v && w)) ≡ none
+    go : (x : Field) (u v w : Bool) → begins_with (text ":") (drop_while is_tchar l) ≡ v → all is_text_byte (drop 1 (drop_while is_tchar l)) ≡ w → (x when (u && v && w)) ≡ None
     go x false v w f g = refl
     go x true false w f g = refl
     go x true true false f g = refl
@@ -105,16 +98,16 @@ no_field_line l e = go (record { name = take_while is_tchar l; value = trim (dro
 -- ---- the status line
 
 module _ (l : Bytes) where
-  pub status_short : {n : ℕ} → length l < n → n ≤ 13 → Malformed ≡ number_of (read_status l)
-  unfolding read_status number_of
+  pub status_short : {n : ℕ} → length l < n → n ≤ 13 → None ≡ read_status l
+  unfolding read_status
   status_short h k = rw (← by_short fits_byte status_form l (omega arith))
 
   module _ {q : Bool} (e : q ≡ fits_form (text "HTTP/0.0 000 ") l) where
-    pub status_bad : q ≡ false → Malformed ≡ number_of (read_status l)
-    unfolding read_status number_of
+    pub status_bad : q ≡ false → None ≡ read_status l
+    unfolding read_status
     status_bad f = rw (← e, f)
 
-    pub status_is : {r : Number} → q ≡ true → all is_text_byte l ≡ true → r ≡ number_of (number16 (take 3 (drop 9 l))) → r ≡ number_of (read_status l)
+    pub status_is : {r : Option ℕ} → q ≡ true → all is_text_byte l ≡ true → r ≡ number16 (take 3 (drop 9 l)) → r ≡ read_status l
     unfolding read_status
     status_is f t g = g ∙ rw (← e, f, all_drop is_text_byte 13 l t)
 
@@ -127,14 +120,14 @@ module _ (l : Bytes) (t : all is_text_byte l ≡ true) {c : ℕ} (e : c ≡ 0 + 
   rest_is : drop_while is_tchar l ≡ drop c l
   rest_is = rw name_length (sym (while_rest is_tchar l))
 
-  pub field_nameless : c ≡ 0 → ReadsField l NoField
+  pub field_nameless : c ≡ 0 → ReadsField l None
   unfolding field_in read_field field_of
   field_nameless h = record {
     is = rw (empty_is (take_while is_tchar l) (sym name_length ∙ h));
     places = no_field;
   }
 
-  pub field_ends : length l ≤ c → ReadsField l NoField
+  pub field_ends : length l ≤ c → ReadsField l None
   unfolding field_in read_field field_of begins_with
   field_ends h = record {
     is = rw (rest_is, drop_of_length-le l h, and-false (not (is_empty (take_while is_tchar l))));
@@ -142,7 +135,7 @@ module _ (l : Bytes) (t : all is_text_byte l ≡ true) {c : ℕ} (e : c ≡ 0 + 
   }
 
   module _ (h : c < length l) where
-    pub field_other : (get_or l c 0 ≡ 58 → ⊥) → ReadsField l NoField
+    pub field_other : (get_or l c 0 ≡ 58 → ⊥) → ReadsField l None
     unfolding field_in read_field field_of begins_with
     field_other n = record {
       is = rw (rest_is, drop-cons l c 0 h, ne_eqb 58 (get_or l c 0) (λ k. n (sym k)), and-false (not (is_empty (take_while is_tchar l))));
@@ -153,7 +146,7 @@ module _ (l : Bytes) (t : all is_text_byte l ≡ true) {c : ℕ} (e : c ≡ 0 + 
       pub field_from : from ≤ length l
       field_from = scan_to is_blank l (c + 1) from g (omega arith)
 
-      pub field_is : {to : ℕ} → (c ≡ 0 → ⊥) → get_or l c 0 ≡ 58 → Trims l from to → ReadsField l (Parts c from to)
+      pub field_is : {to : ℕ} → (c ≡ 0 → ⊥) → get_or l c 0 ≡ 58 → Trims l from to → ReadsField l (Some (record { colon = c; from = from; to = to }))
       unfolding field_in read_field field_of begins_with trim
       field_is n k R = record {
         is =
@@ -162,7 +155,7 @@ module _ (l : Bytes) (t : all is_text_byte l ≡ true) {c : ℕ} (e : c ≡ 0 + 
             let f : is_empty (take_while is_tchar l) ≡ false = empty_not (take_while is_tchar l) (λ z. n (name_length ∙ z)) in
             let d : begins_with (58 ∷ []) (drop c l) ≡ true = rw (drop-cons l c 0 h, k) in
             sym (rw (f, rest_is, d, drop-drop 1 c l, all_drop is_text_byte (c + 1) l t, b, ← R.is, ← a));
-        places = field {colon = c} (omega arith) R.low R.high;
+        places = field (omega arith) R.low R.high;
       }
 
 -- ---- the content type
@@ -194,34 +187,9 @@ module _ (v : Bytes) (d : ℕ) {end : ℕ} (e : end ≡ 0 + length (take_while (
 
 -- ---- one field more
 
-module _ {x : First} (q : Bool) where
-  pub first_right : x ≡ Unseen → q ≡ true → Right ≡ first_by x q
-  unfolding first_by
-  first_right e f = rw (e, f)
-
-  pub first_wrong : x ≡ Unseen → q ≡ false → Wrong ≡ first_by x q
-  unfolding first_by
-  first_wrong e f = rw (e, f)
-
-  pub stays_right : x ≡ Right → Right ≡ first_by x q
-  unfolding first_by
-  stays_right e = rw e
-
-  pub stays_wrong : x ≡ Wrong → Wrong ≡ first_by x q
-  unfolding first_by
-  stays_wrong e = rw e
-
-pub right_unseen : {x : First} → x ≡ Unseen → false ≡ is_right x
-unfolding is_right
-right_unseen e = rw e
-
-pub right_right : {x : First} → x ≡ Right → true ≡ is_right x
-unfolding is_right
-right_right e = rw e
-
-pub right_wrong : {x : First} → x ≡ Wrong → false ≡ is_right x
-unfolding is_right
-right_wrong e = rw e
+pub first_is : (x : Option Bool) (q : Bool) {r : Bool} → r ≡ unwrap_or x q → Some r ≡ first_by x q
+unfolding first_by
+first_is x q e = rw e
 
 module _ {x : Place} (from to : ℕ) where
   pub place_new : x ≡ Nowhere → Between from to ≡ place_by x from to
@@ -237,13 +205,13 @@ module _ {x : Place} (from to : ℕ) where
   place_several e = rw e
 
 module _ (name v : Bytes) (from to : ℕ) (x : Seen) {a : Bool} (e : a ≡ same_no_case name authorized_name) where
-  pub seen_authorized : {q : Bool} {y : First} → a ≡ true → q ≡ same v (text "true") → y ≡ first_by x.authorized q
+  pub seen_authorized : {q : Bool} {y : Option Bool} → a ≡ true → q ≡ same v (text "true") → y ≡ first_by x.authorized q
       → record { authorized = y; typed = x.typed; location = x.location } ≡ seen_with name v from to x
   unfolding seen_with is_true
   seen_authorized f g h = rw (← e, f, h, g)
 
   module _ {b : Bool} (f : a ≡ false) (g : b ≡ same_no_case name type_name) where
-    pub seen_typed : {q : Bool} {y : First} → b ≡ true → q ≡ is_list_type v → y ≡ first_by x.typed q
+    pub seen_typed : {q : Bool} {y : Option Bool} → b ≡ true → q ≡ is_list_type v → y ≡ first_by x.typed q
         → record { authorized = x.authorized; typed = y; location = x.location } ≡ seen_with name v from to x
     unfolding seen_with
     seen_typed h k l = rw (← e, f, ← g, h, l, k)
@@ -258,7 +226,7 @@ module _ (name v : Bytes) (from to : ℕ) (x : Seen) {a : Bool} (e : a ≡ same_
       unfolding seen_with
       seen_other l = rw (← e, f, ← g, h, ← k, l)
 
-pub ruleset field_laws = (status_short, status_bad, status_is, field_nameless, field_ends, field_other, field_from, field_is, type_end, type_to, type_is, first_right, first_wrong, stays_right, stays_wrong, right_unseen, right_right, right_wrong, place_new, place_second, place_several, seen_authorized, seen_typed, seen_location, seen_other, rules)
+pub ruleset field_laws = (status_short, status_bad, status_is, field_nameless, field_ends, field_other, field_from, field_is, type_end, type_to, type_is, first_is, place_new, place_second, place_several, seen_authorized, seen_typed, seen_location, seen_other, rules)
 
 -- for a return: its law alone, so that a search that finds nothing ends
 pub ruleset type_laws = (type_is)

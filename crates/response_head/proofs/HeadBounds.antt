@@ -1,9 +1,8 @@
 -- What holds of every head that is read: its status and its Location have bounds. Assumes nothing.
-use Rattle.std.specs.Prelude.{if◌then◌else◌}
+use Rattle.std.specs.Prelude.{if◌then◌else◌, Option, None, Some}
 use mathlib.Core.Path.{◌≡◌, refl, ap}
 use mathlib.Core.Bool.{Bool, true, false, ◌&&◌, not}
 use mathlib.Core.List.{List, [], ◌∷◌}
-use mathlib.Core.Option.{Option, none, some}
 use Prim.Native.Nat.{ℕ, suc, ◌+◌, ◌≤◌}
 use native.Mathlib.Omega.{arith}
 use lib.ListN.{length, take, drop, length-drop}
@@ -18,20 +17,20 @@ use Rattle.response_head.proofs.LineLaws.{lines_parts}
 
 -- ---- a status
 
-number_small : (s : Bytes) (n : ℕ) → number16 s ≡ some n → n ≤ 65535
+number_small : (s : Bytes) (n : ℕ) → number16 s ≡ Some n → n ≤ 65535
 unfolding number16
 number_small s n = go (not (is_empty s) && all is_digit s) (leb (value s) 65535) refl
   where
-    go : (u v : Bool) → leb (value s) 65535 ≡ v → (value s when (u && v)) ≡ some n → n ≤ 65535
+    go : (u v : Bool) → leb (value s) 65535 ≡ v → (value s when (u && v)) ≡ Some n → n ≤ 65535
     go false v f e = let z : ◌≡◌ {A = ℕ} 0 1 = cc in absurd (omega arith)
     go true false f e = let z : ◌≡◌ {A = ℕ} 0 1 = cc in absurd (omega arith)
     go true true f e = let z : value s ≡ n = cc in rw (← z) (leb-true (value s) 65535 f)
 
-status_small : (l : Bytes) (n : ℕ) → read_status l ≡ some n → n ≤ 65535
+status_small : (l : Bytes) (n : ℕ) → read_status l ≡ Some n → n ≤ 65535
 unfolding read_status
 status_small l n = go (fits_form status_form l && all is_text_byte (drop 13 l))
   where
-    go : (u : Bool) → (if u then number16 (take 3 (drop 9 l)) else none) ≡ some n → n ≤ 65535
+    go : (u : Bool) → (if u then number16 (take 3 (drop 9 l)) else None) ≡ Some n → n ≤ 65535
     go false e = let z : ◌≡◌ {A = ℕ} 0 1 = cc in absurd (omega arith)
     go true e = number_small (take 3 (drop 9 l)) n e
 
@@ -71,31 +70,31 @@ trim_length (b ∷ s) = go (all is_blank (b ∷ s)) (trim_length s)
 rest_length : (f : ℕ → Bool) (l : Bytes) → length (drop_while f l) ≤ length l
 rest_length f l = rw (← while_rest f l, length-drop) (omega arith)
 
-value_length : (l : Bytes) (f : Field) → read_field l ≡ some f → length f.value ≤ length l
+value_length : (l : Bytes) (f : Field) → read_field l ≡ Some f → length f.value ≤ length l
 unfolding read_field field_of trim
 value_length l f = go (record { name = take_while is_tchar l; value = trim d }) refl (not (is_empty (take_while is_tchar l)) && begins_with (text ":") (drop_while is_tchar l) && all is_text_byte d)
   where
     d : Bytes
     d = drop 1 (drop_while is_tchar l)
 
-    go : (x : Field) → x.value ≡ trim d → (u : Bool) → (x when u) ≡ some f → length f.value ≤ length l
+    go : (x : Field) → x.value ≡ trim d → (u : Bool) → (x when u) ≡ Some f → length f.value ≤ length l
     go x v false e = let z : ◌≡◌ {A = ℕ} 0 1 = cc in absurd (omega arith)
     go x v true e =
         let z : x ≡ f = cc in
         rw (← z, v) (unfold trim in (omega (arith, trim_length (drop_while is_blank d), rest_length is_blank d, length-drop 1 (drop_while is_tchar l), rest_length is_tchar l)))
 
-fields_total : (ls : List Bytes) (fs : List Field) → read_fields ls ≡ some fs → field_total fs ≤ total ls
+fields_total : (ls : List Bytes) (fs : List Field) → read_fields ls ≡ Some fs → field_total fs ≤ total ls
 unfolding read_fields total field_total
 fields_total [] fs e = let z : ◌≡◌ {A = ℕ} 0 1 = cc in absurd (omega arith)
 fields_total (l ∷ ls) fs e = go (is_empty l) (is_end ls) e (fields_total ls)
   where
-    go : (u v : Bool) → (if u then ([] when v) else (read_field l >>= λ f. read_fields ls >>= λ gs. some (f ∷ gs))) ≡ some fs
-        → ((gs : List Field) → read_fields ls ≡ some gs → field_total gs ≤ total ls) → field_total fs ≤ length l + total ls
+    go : (u v : Bool) → (if u then ([] when v) else (read_field l >>= λ f. read_fields ls >>= λ gs. Some (f ∷ gs))) ≡ Some fs
+        → ((gs : List Field) → read_fields ls ≡ Some gs → field_total gs ≤ total ls) → field_total fs ≤ length l + total ls
     go true true e ih = let z : [] ≡ fs = cc in rw (← z) (omega arith)
     go true false e ih = let z : ◌≡◌ {A = ℕ} 0 1 = cc in absurd (omega arith)
     go false v e ih =
-        let C = chained (read_field l) (λ f. read_fields ls >>= λ gs. some (f ∷ gs)) fs e in
-        let D = chained (read_fields ls) (λ gs. some (C.between ∷ gs)) fs C.after in
+        let C = chained (read_field l) (λ f. read_fields ls >>= λ gs. Some (f ∷ gs)) fs e in
+        let D = chained (read_fields ls) (λ gs. Some (C.between ∷ gs)) fs C.after in
         let z : C.between ∷ D.between ≡ fs = cc D.after in
         rw (← z) (omega (arith, value_length l C.between C.before, ih D.between D.before))
 
@@ -108,7 +107,7 @@ values_total n (f ∷ fs) = go (same_no_case f.name n) (values_total n fs)
     go true h = omega (arith, h)
     go false h = omega (arith, h)
 
-only_total : (vs : List Bytes) (v : Bytes) → only vs ≡ some v → length v ≤ total vs
+only_total : (vs : List Bytes) (v : Bytes) → only vs ≡ Some v → length v ≤ total vs
 unfolding only total
 only_total [] v e = let z : ◌≡◌ {A = ℕ} 0 1 = cc in absurd (omega arith)
 only_total (w ∷ []) v e = let z : w ≡ v = cc in rw (← z) (omega arith)
@@ -121,13 +120,13 @@ record Read (head : Bytes) (h : Head) : Type 0 where
   small : status ≤ 65535
   fs : List Field
   within : field_total fs ≤ length head
-  is : head_of status fs ≡ some h
+  is : head_of status fs ≡ Some h
 
-read_parts : (head : Bytes) (h : Head) → read_head head ≡ some h → Read head h
+read_parts : (head : Bytes) (h : Head) → read_head head ≡ Some h → Read head h
 unfolding read_head read_lines total
 read_parts head h = go (leb (length head) 8192) refl
   where
-    by_lines : (ls : List Bytes) → total ls ≤ length head → length head ≤ 8192 → read_lines ls ≡ some h → Read head h
+    by_lines : (ls : List Bytes) → total ls ≤ length head → length head ≤ 8192 → read_lines ls ≡ Some h → Read head h
     by_lines [] t k e = let z : ◌≡◌ {A = ℕ} 0 1 = cc in absurd (omega arith)
     by_lines (l ∷ ls) t k e =
         let C = chained (read_status l) (λ status. read_fields ls >>= λ fs. head_of status fs) h e in
@@ -141,7 +140,7 @@ read_parts head h = go (leb (length head) 8192) refl
           is = D.after;
         }
 
-    go : (u : Bool) → leb (length head) 8192 ≡ u → (if u then read_lines (lines_of head) else none) ≡ some h → Read head h
+    go : (u : Bool) → leb (length head) 8192 ≡ u → (if u then read_lines (lines_of head) else None) ≡ Some h → Read head h
     go true f e = by_lines (lines_of head) (lines_total head) (leb-true (length head) 8192 f) e
     go false f e = let z : ◌≡◌ {A = ℕ} 0 1 = cc in absurd (omega arith)
 
@@ -157,13 +156,13 @@ by_parts head status a loc R = go (leb 300 R.status) (leb R.status 399) refl ref
   where
     go : (u v : Bool) → leb 300 R.status ≡ u → leb R.status 399 ≡ v
         → (if u && v
-        then (only (values_of location_name R.fs) >>= λ x. some (redirect R.status (first_passes is_true (values_of authorized_name R.fs)) x))
-        else some (answer R.status (first_passes is_list_type (values_of type_name R.fs)))) ≡ some (redirect status a loc)
+        then (only (values_of location_name R.fs) >>= λ x. Some (redirect R.status (first_passes is_true (values_of authorized_name R.fs)) x))
+        else Some (answer R.status (first_passes is_list_type (values_of type_name R.fs)))) ≡ Some (redirect status a loc)
         → RedirectRead status loc
     go false v f g e = let z : ◌≡◌ {A = ℕ} 0 1 = cc in absurd (omega arith)
     go true false f g e = let z : ◌≡◌ {A = ℕ} 0 1 = cc in absurd (omega arith)
     go true true f g e =
-        let C = chained (only (values_of location_name R.fs)) (λ x. some (redirect R.status (first_passes is_true (values_of authorized_name R.fs)) x)) (redirect status a loc) e in
+        let C = chained (only (values_of location_name R.fs)) (λ x. Some (redirect R.status (first_passes is_true (values_of authorized_name R.fs)) x)) (redirect status a loc) e in
         let y : R.status ≡ status = cc C.after in
         let z : C.between ≡ loc = cc C.after in
         let t : length C.between ≤ total (values_of location_name R.fs) = only_total (values_of location_name R.fs) C.between C.before in
@@ -179,17 +178,17 @@ answer_parts head status t R = go (between 300 399 R.status) (only (values_of lo
   where
     go : (u : Bool) (o : Option Bytes)
         → (if u
-        then (o >>= λ x. some (redirect R.status (first_passes is_true (values_of authorized_name R.fs)) x))
-        else some (answer R.status (first_passes is_list_type (values_of type_name R.fs)))) ≡ some (answer status t)
+        then (o >>= λ x. Some (redirect R.status (first_passes is_true (values_of authorized_name R.fs)) x))
+        else Some (answer R.status (first_passes is_list_type (values_of type_name R.fs)))) ≡ Some (answer status t)
         → status ≤ 65535
     go false o e = let y : R.status ≡ status = cc in omega (arith, R.small, y)
-    go true none e = let z : ◌≡◌ {A = ℕ} 0 1 = cc in absurd (omega arith)
-    go true (some v) e = let z : ◌≡◌ {A = ℕ} 0 1 = cc in absurd (omega arith)
+    go true None e = let z : ◌≡◌ {A = ℕ} 0 1 = cc in absurd (omega arith)
+    go true (Some v) e = let z : ◌≡◌ {A = ℕ} 0 1 = cc in absurd (omega arith)
 
 -- ---- both
 
-pub redirect_bounds : (head : Bytes) (status : ℕ) (a : Bool) (loc : Bytes) → read_head head ≡ some (redirect status a loc) → RedirectRead status loc
+pub redirect_bounds : (head : Bytes) (status : ℕ) (a : Bool) (loc : Bytes) → read_head head ≡ Some (redirect status a loc) → RedirectRead status loc
 redirect_bounds head status a loc e = by_parts head status a loc (read_parts head (redirect status a loc) e)
 
-pub answer_bound : (head : Bytes) (status : ℕ) (t : Bool) → read_head head ≡ some (answer status t) → status ≤ 65535
+pub answer_bound : (head : Bytes) (status : ℕ) (t : Bool) → read_head head ≡ Some (answer status t) → status ≤ 65535
 answer_bound head status t e = answer_parts head status t (read_parts head (answer status t) e)

@@ -1,9 +1,8 @@
 -- Lines between CRLFs, and one field more. Assumes nothing.
-use Rattle.std.specs.Prelude.{if◌then◌else◌}
+use Rattle.std.specs.Prelude.{if◌then◌else◌, Option, None, Some}
 use mathlib.Core.Path.{◌≡◌, refl, sym, ap, ◌∙◌}
 use mathlib.Core.Bool.{Bool, true, false, ◌&&◌, and-true, and-false, and-eq-true_iff}
 use mathlib.Core.List.{List, [], ◌∷◌, ◌++◌, append-nil}
-use mathlib.Core.Option.{some}
 use Prim.Native.Nat.{ℕ, zero, suc, ◌+◌, ◌-◌, ◌^◌, ◌≤◌, ◌<◌}
 use native.Mathlib.Omega.{arith}
 use lib.ListN.{length, take, drop, length-drop}
@@ -21,11 +20,8 @@ use Rattle.ascii.proofs.Compare.{same_eq}
 use Rattle.response_head.specs.ResponseHead.{is_text_byte, is_blank, lines_of, Field, read_field, values_of, authorized_name, type_name, location_name}
 use Rattle.response_head.specs.code.Meaning.{field_in, FieldPlaced, field, ReadsField, first_of, first_by, PlaceIs, nowhere, one, several, place_by, seen_with, Sees, no_fields, fields, TextLine, Adds}
 use Rattle.response_head.specs.declared.FieldLine.{FieldLine}
-use Rattle.response_head.specs.declared.FieldLine.TheVariants.{Parts as Placed, Malformed as NoField}
-use Rattle.response_head.specs.declared.First.TheVariants.{Unseen, Right, Wrong}
 use Rattle.response_head.specs.declared.Place.{Place}
 use Rattle.response_head.specs.declared.Seen.{Seen}
-use Rattle.response_head.specs.declared.Fields.TheVariants.{Read, Malformed as NoFields}
 
 -- ---- lines
 
@@ -158,16 +154,8 @@ module _ (n : Bytes) (f : Field) where
 
 first_more : (p : Bytes → Bool) (vs : List Bytes) (v : Bytes) → first_of p (vs ++ (v ∷ [])) ≡ first_by (first_of p vs) (p v)
 unfolding first_of first_by
-first_more p [] v = go (p v)
-  where
-    go : (u : Bool) → (if u then Right else Wrong) ≡ first_by Unseen u
-    go true = refl
-    go false = refl
-first_more p (w ∷ vs) v = go (p w)
-  where
-    go : (u : Bool) → (if u then Right else Wrong) ≡ first_by (if u then Right else Wrong) (p v)
-    go true = refl
-    go false = refl
+first_more p [] v = refl
+first_more p (w ∷ vs) v = refl
 
 place_more : {s : Bytes} {vs : List Bytes} {x : Place} {v : Bytes} (from to : ℕ) → from ≤ to → to ≤ length s → take (to - from) (drop from s) ≡ v
     → PlaceIs s vs x → PlaceIs s (vs ++ (v ∷ [])) (place_by x from to)
@@ -246,68 +234,68 @@ module _ {s : Bytes} {fs : List Field} {x : Seen} (S : Sees s fs x) (f : Field) 
       go false false true a b c = sees_location a b c
       go false false false a b c = sees_other a b c
 
-record FieldInside (l : Bytes) (c a b : ℕ) : Type 0 where
-  name_end : c ≤ length l
-  low : a ≤ b
-  high : b ≤ length l
+record FieldInside (l : Bytes) (p : FieldLine) : Type 0 where
+  name_end : p.colon ≤ length l
+  low : p.from ≤ p.to
+  high : p.to ≤ length l
 
-field_inside : {l : Bytes} {c a b : ℕ} → FieldPlaced l (Placed c a b) → FieldInside l c a b
+field_inside : {l : Bytes} {p : FieldLine} → FieldPlaced l (Some p) → FieldInside l p
 field_inside (field h k m) = record { name_end = h; low = k; high = m }
 
-module _ {s : Bytes} {at end : ℕ} (L : TextLine s at end) {q : FieldLine} (R : ReadsField (take (end - at) (drop at s)) q) where
+module _ {s : Bytes} {at end : ℕ} (L : TextLine s at end) {q : Option FieldLine} (R : ReadsField (take (end - at) (drop at s)) q) where
   line_length : length (take (end - at) (drop at s)) ≡ end - at
   line_length = length-take-le (end - at) (drop at s) (omega (arith, length-drop at s, L.high))
 
-  pub adds_none : (x : Seen) → q ≡ NoField → Adds s at end x NoFields
+  pub adds_none : (x : Seen) → q ≡ None → Adds s at end x None
   unfolding field_in
   adds_none x k = record { is = λ fs S. rw (← R.is, k) no_fields }
 
-  module _ {c a b : ℕ} (k : q ≡ Placed c a b) where
-    Q : ReadsField (take (end - at) (drop at s)) (Placed c a b)
+  module _ {p : FieldLine} (k : q ≡ Some p) where
+    Q : ReadsField (take (end - at) (drop at s)) (Some p)
     Q = rw k at R
 
-    I : FieldInside (take (end - at) (drop at s)) c a b
+    I : FieldInside (take (end - at) (drop at s)) p
     I = field_inside Q.places
 
-    name_at : at + c ≤ end
+    name_at : at + p.colon ≤ end
     name_at = omega (arith, I.name_end, line_length, L.low)
 
-    value_at : at + b ≤ end
+    value_at : at + p.to ≤ end
     value_at = omega (arith, I.high, line_length, L.low)
 
-    pub adds_name : at + c ≤ length s
+    pub adds_name : at + p.colon ≤ length s
     adds_name = omega (arith, name_at, L.high)
 
-    pub adds_value : at + b ≤ length s
+    pub adds_value : at + p.to ≤ length s
     adds_value = omega (arith, value_at, L.high)
 
-    pub adds_order : at + a ≤ at + b
+    pub adds_order : at + p.from ≤ at + p.to
     adds_order = omega (arith, I.low)
 
-    pub adds_fits_name : length s < 2 ^ 64 → Fits w64 (at + c)
+    pub adds_fits_name : length s < 2 ^ 64 → Fits w64 (at + p.colon)
     adds_fits_name h = record { fits = omega (arith, adds_name) }
 
-    pub adds_fits_from : length s < 2 ^ 64 → Fits w64 (at + a)
+    pub adds_fits_from : length s < 2 ^ 64 → Fits w64 (at + p.from)
     adds_fits_from h = record { fits = omega (arith, adds_value, I.low) }
 
-    pub adds_fits_to : length s < 2 ^ 64 → Fits w64 (at + b)
+    pub adds_fits_to : length s < 2 ^ 64 → Fits w64 (at + p.to)
     adds_fits_to h = record { fits = omega (arith, adds_value) }
 
-    pub name_is : take (at + c - at) (drop at s) ≡ take c (take (end - at) (drop at s))
-    name_is = let z : at + c - at ≡ c = omega arith in rw z (sym (take-take c (end - at) (drop at s) (omega (arith, name_at))))
+    pub name_is : take (at + p.colon - at) (drop at s) ≡ take p.colon (take (end - at) (drop at s))
+    name_is = let z : at + p.colon - at ≡ p.colon = omega arith in rw z (sym (take-take p.colon (end - at) (drop at s) (omega (arith, name_at))))
 
-    pub value_is : take (at + b - (at + a)) (drop (at + a) s) ≡ take (b - a) (drop a (take (end - at) (drop at s)))
+    pub value_is : take (at + p.to - (at + p.from)) (drop (at + p.from) s) ≡ take (p.to - p.from) (drop p.from (take (end - at) (drop at s)))
     value_is =
-        let z : at + b - (at + a) ≡ b - a = omega arith in
-        rw z (sym (part_of (b - a) a (end - at) (drop at s) (omega (arith, value_at, I.low)) ∙ rw (drop-drop a at s)))
+        let z : at + p.to - (at + p.from) ≡ p.to - p.from = omega arith in
+        rw z (sym (part_of (p.to - p.from) p.from (end - at) (drop at s) (omega (arith, value_at, I.low)) ∙ rw (drop-drop p.from at s)))
 
-    pub adds_one : (x : Seen) {y : Seen} → y ≡ seen_with (take (at + c - at) (drop at s)) (take (at + b - (at + a)) (drop (at + a) s)) (at + a) (at + b) x → Adds s at end x (Read y)
+    pub adds_one : (x : Seen) {y : Seen} → y ≡ seen_with (take (at + p.colon - at) (drop at s)) (take (at + p.to - (at + p.from)) (drop (at + p.from) s)) (at + p.from) (at + p.to) x → Adds s at end x (Some y)
     adds_one x {y} e = record {
       is = λ fs S.
-          let f : Field = record { name = take c (take (end - at) (drop at s)); value = take (b - a) (drop a (take (end - at) (drop at s))) } in
-          let r : read_field (take (end - at) (drop at s)) ≡ some f = sym (unfold field_in in Q.is) in
-          let z : y ≡ seen_with f.name f.value (at + a) (at + b) x = e ∙ rw (name_is, value_is) in
-          rw (r, z) (fields (sees_more S f (at + a) (at + b) adds_order adds_value value_is));
+          let f : Field = record { name = take p.colon (take (end - at) (drop at s)); value = take (p.to - p.from) (drop p.from (take (end - at) (drop at s))) } in
+          let r : read_field (take (end - at) (drop at s)) ≡ Some f = sym (unfold field_in in Q.is) in
+          let z : y ≡ seen_with f.name f.value (at + p.from) (at + p.to) x = e ∙ rw (name_is, value_is) in
+          rw (r, z) (fields (sees_more S f (at + p.from) (at + p.to) adds_order adds_value value_is));
     }
 
 pub ruleset line_laws = (line_is, line_fits, line_high, adds_none, adds_name, adds_value, adds_order, adds_fits_name, adds_fits_from, adds_fits_to, adds_one, rules)

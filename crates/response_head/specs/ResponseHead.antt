@@ -1,7 +1,6 @@
 -- One response head and what it says (document 02, S-2). Its grammar is RFC 9112's, sections 2.1 to 5, with tokens and field values as in RFC 9110,
 -- section 5; each rule stands in a comment as its RFC writes it.
-use Rattle.std.specs.Prelude.{List, [], ◌∷◌, Bool, false, ◌&&◌, ◌||◌, not, ℕ, length, take, drop, eqb, leb, if◌then◌else◌}
-use Rattle.std.proofs.Math.Option.{Option, none, some}
+use Rattle.std.specs.Prelude.{List, [], ◌∷◌, Bool, false, ◌&&◌, ◌||◌, not, ℕ, length, take, drop, eqb, leb, if◌then◌else◌, Option, None, Some}
 use Prim.Native.Char.{code}
 use Rattle.ascii.specs.Ascii.{Bytes, ◌>>=◌, ◌when◌, all, is_empty, take_while, drop_while, join_head, between, among, is_digit, is_letter, same, same_no_case, begins_with, begins_by, text, number16}
 
@@ -42,7 +41,7 @@ status_form = text "HTTP/0.0 000 "
 -- status-line = HTTP-version SP status-code SP [ reason-phrase ], where reason-phrase = 1*( HTAB / SP / VCHAR / obs-text ); its status is the number of the
 -- three digits behind `HTTP/0.0 `
 unfoldable pub read_status : Bytes → Option ℕ
-read_status l = if fits_form status_form l && all is_text_byte (drop (length status_form) l) then number16 (take 3 (drop 9 l)) else none
+read_status l = if fits_form status_form l && all is_text_byte (drop (length status_form) l) then number16 (take 3 (drop 9 l)) else None
 
 -- optional spaces and tabs around a value are dropped
 unfoldable pub trim_end : Bytes → Bytes
@@ -74,10 +73,10 @@ is_end (l ∷ ls) = is_empty l && is_empty ls
 
 -- field lines, the empty line last: *( field-line CRLF ) CRLF
 unfoldable pub read_fields : List Bytes → Option (List Field)
-read_fields [] = none
+read_fields [] = None
 read_fields (l ∷ ls) =
     if is_empty l then ([] when is_end ls) else
-    (read_field l >>= λ f. read_fields ls >>= λ fs. some (f ∷ fs))
+    (read_field l >>= λ f. read_fields ls >>= λ fs. Some (f ∷ fs))
 
 -- ---- what the fields say
 
@@ -114,9 +113,9 @@ is_list_type v = same_no_case (trim_end (take_while (is_other (code ";")) v)) (t
 
 -- exactly one line
 unfoldable pub only : List Bytes → Option Bytes
-only [] = none
-only (v ∷ []) = some v
-only (v ∷ w ∷ vs) = none
+only [] = None
+only (v ∷ []) = Some v
+only (v ∷ w ∷ vs) = None
 
 -- ---- the head
 
@@ -128,14 +127,14 @@ pub data Head : Type 0 where
 unfoldable pub head_of : ℕ → List Field → Option Head
 head_of status fs =
     if between 300 399 status
-    then (only (values_of location_name fs) >>= λ v. some (redirect status (first_passes is_true (values_of authorized_name fs)) v))
-    else some (answer status (first_passes is_list_type (values_of type_name fs)))
+    then (only (values_of location_name fs) >>= λ v. Some (redirect status (first_passes is_true (values_of authorized_name fs)) v))
+    else Some (answer status (first_passes is_list_type (values_of type_name fs)))
 
 -- status line, field lines, the empty line last
 unfoldable pub read_lines : List Bytes → Option Head
-read_lines [] = none
+read_lines [] = None
 read_lines (l ∷ ls) = read_status l >>= λ status. read_fields ls >>= λ fs. head_of status fs
 
 -- at most 8,192 bytes; none: not in this form, or a redirect without its one Location
 unfoldable pub read_head : Bytes → Option Head
-read_head head = if leb (length head) 8192 then read_lines (lines_of head) else none
+read_head head = if leb (length head) 8192 then read_lines (lines_of head) else None

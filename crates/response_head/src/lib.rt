@@ -2,37 +2,36 @@
 #![tactic(auto)]
 
 ghost use Rattle.std.specs.Prelude.{◌≡◌, true, ◌+◌, ◌≤◌, length, drop};
-ghost use Rattle.ascii.specs.Ascii.{all, take_while, among};
-ghost use Rattle.ascii.specs.code.Numbers.{number_of};
-ghost use Rattle.response_head.specs.ResponseHead.{is_blank, is_text_byte, is_tchar, fits_byte, fits_form, read_status, is_list_type, lines_of, read_fields, read_lines, read_head};
-ghost use Rattle.response_head.specs.code.Meaning.{is_alphanumeric, in_run, Trims, ReadsField, first_by, is_right, place_by, seen_with, TextLine, Adds, FieldsRead, Makes, ReadsHead};
+ghost use Rattle.ascii.specs.Ascii.{all, take_while};
+ghost use Rattle.response_head.specs.ResponseHead.{is_blank, is_text_byte, is_tchar, is_other, fits_byte, fits_form, read_status, is_list_type, lines_of, read_fields, read_lines, read_head};
+ghost use Rattle.response_head.specs.code.Meaning.{Trims, ReadsField, first_by, place_by, seen_with, TextLine, Adds, FieldsRead, Makes, ReadsHead};
 
-use ascii::decimals::Number;
-
-// A whole head: status and authorized header of a redirect, with the places of its Location; status and right type of an answer.
+// What a whole head says: status and authorized header of a redirect, with the places of its Location; status and right type of
+// an answer.
 #[derive(Clone, Copy)]
-pub enum Reading {
-    Redirect(u16, bool, usize, usize),
-    Answer(u16, bool),
-    Malformed,
+pub enum Head {
+    Redirect {
+        status: u16,
+        authorized: bool,
+        from: usize,
+        to: usize,
+    },
+    Answer {
+        status: u16,
+        typed: bool,
+    },
 }
 
 // A field line: the place of its colon, and the two places between which its value stands, without the blanks around it.
 #[derive(Clone, Copy)]
-enum FieldLine {
-    Parts(usize, usize, usize),
-    Malformed,
+struct FieldLine {
+    colon: usize,
+    from: usize,
+    to: usize,
 }
 
-// The first line of a name: none yet, or one with the value that is asked for, or with another one.
-#[derive(Clone, Copy)]
-enum First {
-    Unseen,
-    Right,
-    Wrong,
-}
-
-// The value of the Location lines: between two places, where there is one line.
+// The value of the Location lines: between two places, where there is one line. No Option: no line and several differ, since one
+// more makes one of the first.
 #[derive(Clone, Copy)]
 enum Place {
     Nowhere,
@@ -40,30 +39,15 @@ enum Place {
     Several,
 }
 
-// What is seen of the field lines so far.
+// What is seen of the field lines so far: whether the first line of a name has the value that is asked for, where there is a line.
 #[derive(Clone, Copy)]
 struct Seen {
-    authorized: First,
-    typed: First,
+    authorized: Option<bool>,
+    typed: Option<bool>,
     location: Place,
 }
 
-#[derive(Clone, Copy)]
-enum Fields {
-    Read(Seen),
-    Malformed,
-}
-
 // ---- bytes
-
-// The bytes that a scan passes: those of one class, or all but one.
-#[derive(Clone, Copy)]
-enum Run {
-    Blank,
-    Text,
-    Tchar,
-    Other(u8),
-}
 
 // SP / HTAB
 fn is_blank(b: u8) -> bool
@@ -85,70 +69,18 @@ fn is_text_byte(b: u8) -> bool
     b != 0x7F
 }
 
-// One of these bytes.
-fn is_among(marks: &[u8], b: u8) -> bool
-    ensures { result ≡ among marks.now b }
-{
-    let mut i = 0;
-    while i < marks.len() {
-        if b == marks[i] {
-            return true;
-        }
-        i += 1;
-    }
-    false
-}
-
 // tchar: a letter or digit, or one of these marks.
 fn is_tchar(b: u8) -> bool
     ensures { result ≡ is_tchar b }
 {
-    if is_alphanumeric(b) {
-        return true;
-    }
-    is_among(b"!#$%&'*+-.^_`|~", b)
+    b.is_ascii_alphanumeric() || b"!#$%&'*+-.^_`|~".contains(&b)
 }
 
-fn is_alphanumeric(b: u8) -> bool
-    ensures { result ≡ is_alphanumeric b }
+// Where the text bytes from a place on end.
+fn text_end(s: &[u8], from: usize) -> usize
+    ensures { result ≡ from + length (take_while is_text_byte (drop from s.now)) }
 {
-    if b < b'0' {
-        return false;
-    }
-    if b <= b'9' {
-        return true;
-    }
-    let c = ascii::lower_byte(b);
-    if c < b'a' {
-        return false;
-    }
-    c <= b'z'
-}
-
-fn is_in(run: Run, b: u8) -> bool
-    ensures { result ≡ in_run run b }
-{
-    match run {
-        Run::Blank => is_blank(b),
-        Run::Text => is_text_byte(b),
-        Run::Tchar => is_tchar(b),
-        Run::Other(d) => b != d,
-    }
-}
-
-// Where a run from a place on ends.
-fn run_end(run: Run, s: &[u8], from: usize) -> usize
-    ensures { result ≡ from + length (take_while (in_run run) (drop from s.now)) }
-{
-    let mut i = from;
-    while i < s.len() {
-        if is_in(run, s[i]) {
-            i += 1;
-        } else {
-            return i;
-        }
-    }
-    i
+    ascii::run_end(s, from, is_text_byte)
 }
 
 // Where the bytes from a place on end, blanks at the end left out.
@@ -156,16 +88,12 @@ fn trim_end(s: &[u8], from: usize) -> usize
     requires { from ≤ length s.now }
     ensures { Trims s.now from result }
 {
-    let mut end = s.len();
-    while from < end {
-        let last = end - 1;
-        if is_blank(s[last]) {
-            end = last;
-        } else {
-            return end;
+    for last in (from..s.len()).rev() {
+        if !is_blank(s[last]) {
+            return last + 1;
         }
     }
-    end
+    from
 }
 
 // ---- lines
@@ -185,11 +113,9 @@ fn fits_form(form: &[u8], s: &[u8]) -> bool
     requires { length form.now ≤ length s.now }
     ensures { result ≡ fits_form form.now s.now }
 {
-    let mut i = 0;
-    while i < form.len() {
-        if fits_byte(form[i], s[i]) {
-            i += 1;
-        } else {
+    // by index: of `zip` with `all` the proof did not close
+    for i in 0..form.len() {
+        if !fits_byte(form[i], s[i]) {
             return false;
         }
     }
@@ -197,70 +123,63 @@ fn fits_form(form: &[u8], s: &[u8]) -> bool
 }
 
 // The status of a status line; the line is of text bytes.
-fn read_status(line: &[u8]) -> Number
+fn read_status(line: &[u8]) -> Option<u16>
     requires { all is_text_byte line.now ≡ true }
-    ensures { result ≡ number_of (read_status line.now) }
+    ensures { result ≡ read_status line.now }
 {
     if line.len() < 13 {
-        return Number::Malformed;
+        return None;
     }
     if fits_form(b"HTTP/0.0 000 ", line) {
         ascii::decimals::read_number(&line[9..12])
     } else {
-        Number::Malformed
+        None
     }
 }
 
 // A field line of text bytes.
-fn read_field(line: &[u8]) -> FieldLine
+fn read_field(line: &[u8]) -> Option<FieldLine>
     requires { all is_text_byte line.now ≡ true }
     ensures { ReadsField line.now result }
 {
-    let colon = run_end(Run::Tchar, line, 0);
+    let colon = ascii::run_end(line, 0, is_tchar);
     if colon == 0 {
-        return FieldLine::Malformed;
+        return None;
     }
     if line.len() <= colon {
-        return FieldLine::Malformed;
+        return None;
     }
     if line[colon] != b':' {
-        return FieldLine::Malformed;
+        return None;
     }
-    let from = run_end(Run::Blank, line, colon + 1);
+    let from = ascii::run_end(line, colon + 1, is_blank);
     let to = trim_end(line, from);
-    FieldLine::Parts(colon, from, to)
+    Some(FieldLine { colon, from, to })
 }
 
 // ---- fields
+
+// The bytes before a content type's parameters.
+fn is_in_type(b: u8) -> bool
+    ensures { result ≡ is_other 59 b }
+{
+    b != b';'
+}
 
 // The value is the list's content type.
 fn is_list_type(value: &[u8]) -> bool
     ensures { result ≡ is_list_type value.now }
 {
-    let end = run_end(Run::Other(b';'), value, 0);
+    let end = ascii::run_end(value, 0, is_in_type);
     let to = trim_end(&value[0..end], 0);
     ascii::equal_no_case(&value[0..to], b"application/fido.trusted-apps+json")
 }
 
 // One line more of a name: the first counts.
-fn first_by(x: First, right: bool) -> First
+fn first_by(x: Option<bool>, right: bool) -> Option<bool>
     ensures { result ≡ first_by x right }
 {
-    match x {
-        First::Unseen => { if right { First::Right } else { First::Wrong } }
-        First::Right => First::Right,
-        First::Wrong => First::Wrong,
-    }
-}
-
-fn is_right(x: First) -> bool
-    ensures { result ≡ is_right x }
-{
-    match x {
-        First::Unseen => false,
-        First::Right => true,
-        First::Wrong => false,
-    }
+    Some(x.unwrap_or(right))
 }
 
 // One Location line more.
@@ -278,132 +197,113 @@ fn place_by(x: Place, from: usize, to: usize) -> Place
 fn seen_with(name: &[u8], value: &[u8], from: usize, to: usize, x: Seen) -> Seen
     ensures { result ≡ seen_with name.now value.now from to x }
 {
-    let authorized = x.authorized;
-    let typed = x.typed;
-    let location = x.location;
     if ascii::equal_no_case(name, b"FIDO-AppID-Redirect-Authorized") {
-        let first = first_by(authorized, ascii::equal(value, b"true"));
         return Seen {
-            authorized: first,
-            typed,
-            location,
+            authorized: first_by(x.authorized, ascii::equal(value, b"true")),
+            ..x
         };
     }
     if ascii::equal_no_case(name, b"Content-Type") {
-        let first = first_by(typed, is_list_type(value));
         return Seen {
-            authorized,
-            typed: first,
-            location,
+            typed: first_by(x.typed, is_list_type(value)),
+            ..x
         };
     }
     if ascii::equal_no_case(name, b"Location") {
-        let place = place_by(location, from, to);
         return Seen {
-            authorized,
-            typed,
-            location: place,
+            location: place_by(x.location, from, to),
+            ..x
         };
     }
     x
 }
 
 // The field line between two places, seen with those before it.
-fn field_seen(s: &[u8], at: usize, end: usize, x: Seen) -> Fields
+fn field_seen(s: &[u8], at: usize, end: usize, x: Seen) -> Option<Seen>
     requires { TextLine s.now at end }
     ensures { Adds s.now at end x result }
 {
-    let FieldLine::Parts(colon, from, to) = read_field(&s[at..end]) else {
-        return Fields::Malformed;
-    };
-    let name_end = at + colon;
-    let first = at + from;
-    let last = at + to;
-    Fields::Read(seen_with(&s[at..name_end], &s[first..last], first, last, x))
+    let line = read_field(&s[at..end])?;
+    let name_end = at + line.colon;
+    let from = at + line.from;
+    let to = at + line.to;
+    Some(seen_with(&s[at..name_end], &s[from..to], from, to, x))
 }
 
-// The field lines from a place on, the empty line last and nothing behind it: line after line, each looked at for its end, then for
-// its parts, and not again.
-fn read_fields(s: &[u8], from: usize) -> Fields
+// The field lines from a place on, the empty line last and nothing behind it. A `while`: each line is looked at for its end, then
+// for its parts, and not again, so that the next one begins where a turn says.
+fn read_fields(s: &[u8], from: usize) -> Option<Seen>
     ensures { FieldsRead s.now (read_fields (lines_of (drop from s.now))) result }
 {
     let mut at = from;
     let mut x = Seen {
-        authorized: First::Unseen,
-        typed: First::Unseen,
+        authorized: None,
+        typed: None,
         location: Place::Nowhere,
     };
     while at < s.len() {
-        let end = run_end(Run::Text, s, at);
+        let end = text_end(s, at);
         if ascii::begins_with(&s[end..], b"\r\n") {
             if end == at {
                 if s.len() - end == 2 {
-                    return Fields::Read(x);
+                    return Some(x);
                 }
-                return Fields::Malformed;
+                return None; // bytes behind
             }
-            match field_seen(s, at, end, x) {
-                Fields::Read(y) => {
-                    x = y;
-                    at = end + 2;
-                }
-                Fields::Malformed => {
-                    return Fields::Malformed;
-                }
-            }
+            x = field_seen(s, at, end, x)?;
+            at = end + 2;
         } else {
-            return Fields::Malformed;
+            return None;
         }
     }
-    Fields::Malformed // no empty line
+    None // no empty line
 }
 
 // ---- the head
 
 // What a status and the fields make.
-fn reading_of(status: u16, x: Seen) -> Reading
+fn reading_of(status: u16, x: Seen) -> Option<Head>
     ensures { Makes status x result }
 {
-    let typed = x.typed;
+    let typed = x.typed.unwrap_or(false);
     if status < 300 {
-        return Reading::Answer(status, is_right(typed));
+        return Some(Head::Answer { status, typed });
     }
     if 399 < status {
-        return Reading::Answer(status, is_right(typed));
+        return Some(Head::Answer { status, typed });
     }
-    let authorized = x.authorized;
-    let location = x.location;
-    match location {
-        Place::Between(from, to) => Reading::Redirect(status, is_right(authorized), from, to),
-        Place::Nowhere => Reading::Malformed,
-        Place::Several => Reading::Malformed,
+    match x.location {
+        Place::Between(from, to) => Some(Head::Redirect {
+            status,
+            authorized: x.authorized.unwrap_or(false),
+            from,
+            to,
+        }),
+        Place::Nowhere => None,
+        Place::Several => None,
     }
 }
 
 // A head of any length: status line, field lines, the empty line last.
-fn read_lines(head: &[u8]) -> Reading
+fn read_lines(head: &[u8]) -> Option<Head>
     ensures { ReadsHead head.now (read_lines (lines_of head.now)) result }
 {
-    let end = run_end(Run::Text, head, 0);
+    let end = text_end(head, 0);
     if ascii::begins_with(&head[end..], b"\r\n") {
-        let Number::Value(status) = read_status(&head[0..end]) else {
-            return Reading::Malformed;
-        };
-        let Fields::Read(x) = read_fields(head, end + 2) else {
-            return Reading::Malformed;
-        };
+        let status = read_status(&head[0..end])?;
+        let x = read_fields(head, end + 2)?;
         reading_of(status, x)
     } else {
-        Reading::Malformed
+        None
     }
 }
 
-// At most 8,192 bytes; Malformed: not in this form, or a redirect without its one Location.
-pub fn read_head(head: &[u8]) -> Reading
+// At most 8,192 bytes; none: not in this form, or a redirect without its one Location.
+pub fn read_head(head: &[u8]) -> Option<Head>
     ensures { ReadsHead head.now (read_head head.now) result }
 {
     if 8192 < head.len() {
-        return Reading::Malformed;
+        return None;
     }
     read_lines(head)
 }

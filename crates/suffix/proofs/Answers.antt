@@ -1,23 +1,22 @@
 -- From the numbers of the pass to the private label. Assumes nothing.
-use Rattle.std.specs.Prelude.{if◌then◌else◌}
+use Rattle.std.specs.Prelude.{if◌then◌else◌, Option, None, Some}
 use mathlib.Core.Path.{◌≡◌, refl, sym, ap, ap₂, ◌∙◌}
 use mathlib.Core.Bool.{Bool, true, false, ◌&&◌, not, and-eq-true_iff}
 use mathlib.Core.List.{List, [], ◌∷◌}
-use mathlib.Core.Option.{Option, none, some}
-use Prim.Native.Nat.{ℕ, ◌+◌, ◌-◌, ◌≤◌, ◌<◌}
+use Prim.Native.Nat.{ℕ, ◌+◌, ◌-◌, ◌≤◌, ◌<◌, max}
 use native.Mathlib.Omega.{arith}
-use lib.ListN.{length, take, drop, length-drop}
-use lib.Seq.{drop-length, take_all}
-use lib.Dec.{leb, ltb}
-use borrow.Author.Tests.{eq-eqb, ne_eqb, lt-leb, le-leb, lt-ltb, le-ltb, leb-true, ltb-true, ltb-false, not-true}
+use lib.ListN.{length, drop, length-drop}
+use lib.Seq.{drop-length}
+use lib.Dec.{eqb, leb, ltb}
+use borrow.Author.Tests.{ne_eqb, eqb-true, eqb-false, lt-leb, le-leb, lt-ltb, le-ltb, leb-true, ltb-true, ltb-false, not-true}
 use Rattle.ascii.specs.Ascii.{Bytes, ◌>>=◌, all, filter_by, split_at, last_of, join_with, begins_with, same, text}
 use Rattle.hosts.specs.Host.{labels, is_host, is_address}
 use Rattle.hosts.specs.code.Place.{Stands}
 use Rattle.suffix.specs.Suffix.{Rule, normal, exceptional, content, is_skipped, read_rule, read_lines, read_table, matches, longer, most_labels, prevailing, suffix_size, public_suffix, private_labels, label_under, private_label, or_empty}
-use Rattle.suffix.specs.code.Pass.{max_labels, sizes, best_of, size_of, LabelAt}
-use Rattle.suffix.specs.declared.Best.{Best}
-use Rattle.suffix.specs.declared.Best.TheVariants.{Bad, Sizes}
+use Rattle.suffix.specs.code.Pass.{sized, max_labels, sizes, best_of, size_of, LabelAt}
+use Rattle.suffix.specs.declared.Sizes.{Sizes}
 use Rattle.hosts.proofs.Ends.{labels_some}
+use Rattle.suffix.proofs.Passes.{same_sizes}
 
 -- ---- each rule has a name
 
@@ -25,12 +24,12 @@ abbrev pub named : Rule → Bool
 named r = leb 1 (length r.names)
 
 pub data Named : Option (List Rule) → Type 0 where
-  no_rules : Named none
-  have_names : {rs : List Rule} → all named rs ≡ true → Named (some rs)
+  no_rules : Named None
+  have_names : {rs : List Rule} → all named rs ≡ true → Named (Some rs)
 
 pub data NamedRule : Option Rule → Type 0 where
-  no_rule : NamedRule none
-  has_name : {r : Rule} → named r ≡ true → NamedRule (some r)
+  no_rule : NamedRule None
+  has_name : {r : Rule} → named r ≡ true → NamedRule (Some r)
 
 labels_named : (s : Bytes) → leb 1 (length (labels s)) ≡ true
 labels_named s = le-leb 1 (length (labels s)) (labels_some s)
@@ -42,10 +41,10 @@ rule_named s =
     (begins_with (text "!") s && is_host (drop 1 s) && leb 2 (length (labels (drop 1 s))))
   where
     go : (a b c d : Bool) → NamedRule (
-        if a then some (normal (labels s)) else
-        if b then some (normal (labels s)) else
-        if c then some (normal (labels s)) else
-        if d then some (exceptional (labels (drop 1 s))) else none)
+        if a then Some (normal (labels s)) else
+        if b then Some (normal (labels s)) else
+        if c then Some (normal (labels s)) else
+        if d then Some (exceptional (labels (drop 1 s))) else None)
     go true b c d = has_name {r = normal (labels s)} (labels_named s)
     go false true c d = has_name {r = normal (labels s)} (labels_named s)
     go false false true d = has_name {r = normal (labels s)} (labels_named s)
@@ -57,7 +56,7 @@ unfolding read_lines all
 lines_named [] = have_names refl
 lines_named (l ∷ ls) = go (is_skipped (content l)) (rule_named (content l)) (lines_named ls)
   where
-    go : {o : Option Rule} {rs : Option (List Rule)} (u : Bool) → NamedRule o → Named rs → Named (if u then rs else (o >>= λ r. rs >>= λ rs. some (r ∷ rs)))
+    go : {o : Option Rule} {rs : Option (List Rule)} (u : Bool) → NamedRule o → Named rs → Named (if u then rs else (o >>= λ r. rs >>= λ rs. Some (r ∷ rs)))
     go true a b = b
     go false no_rule b = no_rules
     go false (has_name a) no_rules = no_rules
@@ -67,7 +66,7 @@ pub table_named : (table : Bytes) → Named (read_table table)
 unfolding read_table
 table_named table = go (leb (length table) 1048576)
   where
-    go : (u : Bool) → Named (if u then read_lines (split_at 10 table) else none)
+    go : (u : Bool) → Named (if u then read_lines (split_at 10 table) else None)
     go true = lines_named (split_at 10 table)
     go false = no_rules
 
@@ -104,11 +103,11 @@ filter_empty p (r ∷ rs) e = go (p r) refl e (filter_empty p rs)
 -- the rule with most labels: its number of labels, and what holds of every rule holds of it
 pub record Most (rs : List Rule) : Type 0 where
   pub rule : Rule
-  pub is : most_labels rs ≡ some rule
+  pub is : most_labels rs ≡ Some rule
   pub count : length rule.names ≡ max_labels rs
   pub passes : (p : Rule → Bool) → all p rs ≡ true → p rule ≡ true
 
-longest_none : most_labels [] ≡ none
+longest_none : most_labels [] ≡ None
 unfolding most_labels
 longest_none = refl
 
@@ -116,11 +115,11 @@ max_none : max_labels [] ≡ 0
 unfolding max_labels
 max_none = refl
 
-longest_one : (r : Rule) → most_labels (r ∷ []) ≡ some r
+longest_one : (r : Rule) → most_labels (r ∷ []) ≡ Some r
 unfolding most_labels
 longest_one r = refl
 
-longest_more : (r : Rule) (rs : List Rule) → most_labels (r ∷ rs) ≡ some (longer r (most_labels rs))
+longest_more : (r : Rule) (rs : List Rule) → most_labels (r ∷ rs) ≡ Some (longer r (most_labels rs))
 unfolding most_labels
 longest_more r rs = refl
 
@@ -167,46 +166,47 @@ pub size_exception : (e m : ℕ) → 0 < e → e - 1 ≡ size_of e m
 unfolding size_of
 size_exception e m h = rw (lt-ltb 0 e h)
 
-pub size_one : (e m : ℕ) → e ≤ 0 → m ≡ 0 → 1 ≡ size_of e m
+pub size_most : (e m : ℕ) {r : ℕ} → e ≤ 0 → r ≡ max m 1 → r ≡ size_of e m
 unfolding size_of
-size_one e m h k = rw (le-ltb 0 e h, eq-eqb _ _ k)
-
-pub size_most : (e m : ℕ) → e ≤ 0 → (m ≡ 0 → ⊥) → m ≡ size_of e m
-unfolding size_of
-size_most e m h k = rw (le-ltb 0 e h, ne_eqb _ _ k)
+size_most e m {r} h k = rw (le-ltb 0 e h) (go (eqb m 0) refl)
+  where
+    go : (u : Bool) → eqb m 0 ≡ u → r ≡ (if u then 1 else m)
+    go true z = omega (arith, k, eqb-true m 0 z)
+    go false z = omega (arith, k, eqb-false m 0 z)
 
 -- ---- what the pass says of the table
 
 pub record Found (table host : Bytes) (n : ℕ) : Type 0 where
   pub rules : List Rule
-  pub read : read_table table ≡ some rules
+  pub read : read_table table ≡ Some rules
   pub size : suffix_size (prevailing (filter_by (matches (labels host)) rules)) ≡ n
 
-pub found : (table host : Bytes) (e m : ℕ) → Sizes e m ≡ best_of (labels host) (read_table table) → Found table host (size_of e m)
+pub found : (table host : Bytes) (e m : ℕ) → sized e m ≡ best_of (labels host) (read_table table) → Found table host (size_of e m)
 found table host e m q = go (read_table table) refl (table_named table) q
   where
-    go : (o : Option (List Rule)) → read_table table ≡ o → Named o → Sizes e m ≡ best_of (labels host) o → Found table host (size_of e m)
-    go none t a q = unfold best_of in (let z : ◌≡◌ {A = ℕ} 0 1 = cc in absurd (omega arith))
-    go (some rs) t (have_names a) q = unfold best_of sizes in
+    go : (o : Option (List Rule)) → read_table table ≡ o → Named o → sized e m ≡ best_of (labels host) o → Found table host (size_of e m)
+    go None t a q = unfold best_of in (let z : ◌≡◌ {A = ℕ} 0 1 = cc in absurd (omega arith))
+    go (Some rs) t (have_names a) q = unfold best_of sizes in
         (let ms = filter_by (matches (labels host)) rs in
-        let x : max_labels (filter_by (λ r. r.exception) ms) ≡ e = cc in
-        let y : max_labels ms ≡ m = cc in
+        let p = same_sizes q in
+        let x : max_labels (filter_by (λ r. r.exception) ms) ≡ e = sym p.0 in
+        let y : max_labels ms ≡ m = sym p.1 in
         record { rules = rs; read = t; size = size_is ms (filter_named (matches (labels host)) rs a) ∙ ap₂ size_of x y })
 
-pub bad_table : (table host : Bytes) → Bad ≡ best_of (labels host) (read_table table) → read_table table ≡ none
+pub bad_table : (table host : Bytes) → None ≡ best_of (labels host) (read_table table) → read_table table ≡ None
 bad_table table host q = go (read_table table) q
   where
-    go : (o : Option (List Rule)) → Bad ≡ best_of (labels host) o → o ≡ none
-    go none q = refl
-    go (some rs) q = unfold best_of sizes in (let z : ◌≡◌ {A = ℕ} 0 1 = cc in absurd (omega arith))
+    go : (o : Option (List Rule)) → None ≡ best_of (labels host) o → o ≡ None
+    go None q = refl
+    go (Some rs) q = unfold best_of sizes in (let z : ◌≡◌ {A = ℕ} 0 1 = cc in absurd (omega arith))
 
 -- ---- the ways out of the code
 
-pub none_at : (table host : Bytes) → private_label table host ≡ none → LabelAt table host (length host)
+pub none_at : (table host : Bytes) → private_label table host ≡ None → LabelAt table host (length host)
 none_at table host e = record { inside = omega arith; is = drop-length host ∙ rw e }
 
 module _ (table host : Bytes) where
-  no_size : (rules : List Rule) → is_address (labels host) ≡ true → label_under rules host ≡ none
+  no_size : (rules : List Rule) → is_address (labels host) ≡ true → label_under rules host ≡ None
   unfolding label_under private_labels
   no_size rules d = rw d
 
@@ -218,21 +218,21 @@ module _ (table host : Bytes) where
   unfolding private_label
   at_address a b = none_at table host (go (is_host host) (read_table table))
     where
-      go : (u : Bool) (o : Option (List Rule)) → (if u then (o >>= λ rules. label_under rules host) else none) ≡ none
+      go : (u : Bool) (o : Option (List Rule)) → (if u then (o >>= λ rules. label_under rules host) else None) ≡ None
       go false o = refl
-      go true none = refl
-      go true (some rules) = no_size rules (sym a ∙ b)
+      go true None = refl
+      go true (Some rules) = no_size rules (sym a ∙ b)
 
-  pub at_bad : {q : Best} → q ≡ best_of (labels host) (read_table table) → q ≡ Bad → LabelAt table host (length host)
+  pub at_bad : {q : Option Sizes} → q ≡ best_of (labels host) (read_table table) → q ≡ None → LabelAt table host (length host)
   unfolding private_label
   at_bad q b = none_at table host (go (is_host host))
     where
-      go : (u : Bool) → (if u then (read_table table >>= λ rules. label_under rules host) else none) ≡ none
+      go : (u : Bool) → (if u then (read_table table >>= λ rules. label_under rules host) else None) ≡ None
       go false = refl
       go true = rw (bad_table table host (sym b ∙ q))
 
-  module _ {a d : Bool} {q : Best} {e m n k : ℕ} (h : a ≡ is_host host) (h' : a ≡ true) (i : d ≡ is_address (labels host)) (i' : d ≡ false)
-      (t : q ≡ best_of (labels host) (read_table table)) (t' : q ≡ Sizes e m) (s : n ≡ size_of e m) (c : k ≡ length (labels host)) where
+  module _ {a d : Bool} {q : Option Sizes} {e m n k : ℕ} (h : a ≡ is_host host) (h' : a ≡ true) (i : d ≡ is_address (labels host)) (i' : d ≡ false)
+      (t : q ≡ best_of (labels host) (read_table table)) (t' : q ≡ sized e m) (s : n ≡ size_of e m) (c : k ≡ length (labels host)) where
     F : Found table host (size_of e m)
     F = found table host e m (sym t' ∙ t)
 
@@ -248,7 +248,7 @@ module _ (table host : Bytes) where
     unfolding label_under private_labels
     at_whole l = none_at table host (opened ∙ rw (sym i ∙ i', le-leb (length (labels host)) (length (public_suffix F.rules (labels host))) (omega (arith, suffix_length))))
 
-    pub labelled : n < k → private_label table host ≡ some (join_with 46 (last_of (n + 1) (labels host)))
+    pub labelled : n < k → private_label table host ≡ Some (join_with 46 (last_of (n + 1) (labels host)))
     unfolding label_under private_labels
     labelled l =
         let z : length (public_suffix F.rules (labels host)) ≡ n = omega (arith, suffix_length) in
@@ -256,6 +256,3 @@ module _ (table host : Bytes) where
 
     pub at_label : {r : ℕ} → n < k → Stands (last_of (n + 1) (labels host)) host r → LabelAt table host r
     at_label l S = record { inside = S.inside; is = S.is ∙ sym (ap or_empty (labelled l)) }
-
-pub label_rest : {table host : Bytes} {r : ℕ} → LabelAt table host r → take (length host - r) (drop r host) ≡ or_empty (private_label table host)
-label_rest {table} {host} {r} L = take_all (length host - r) (drop r host) (omega (arith, length-drop r host)) ∙ L.is

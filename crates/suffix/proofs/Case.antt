@@ -1,10 +1,8 @@
 -- The private label does not depend on ASCII case.
-use Rattle.std.specs.Prelude.{if◌then◌else◌}
+use Rattle.std.specs.Prelude.{if◌then◌else◌, Option, None, Some, option_map}
 use mathlib.Core.Path.{◌≡◌, refl}
 use mathlib.Core.List.{List, [], ◌∷◌, map}
 use mathlib.Core.Bool.{Bool, true, false}
-use mathlib.Core.Option
-use mathlib.Core.Option.{Option, none, some}
 use lib.ListN.{length-map}
 use Rattle.ascii.specs.Ascii.{Bytes, ◌>>=◌, filter_by, join_with, lower_byte, lower, same_no_case}
 use Rattle.hosts.specs.Host.{labels, is_host}
@@ -43,25 +41,25 @@ if_map : {A B : Type 0} (f : A → B) (t : Bool) (x y : A) → (if t then f x el
 if_map f true x y = refl
 if_map f false x y = refl
 
-labels_of : (rules : List Rule) (host : List Bytes) → private_labels rules (map lower host) ≡ Option.map (map lower) (private_labels rules host)
+labels_of : (rules : List Rule) (host : List Bytes) → private_labels rules (map lower host) ≡ option_map (map lower) (private_labels rules host)
 unfolding private_labels
 labels_of rules host =
-    simp (is_address_lem, suffix_lower, length-map, last_map, ← if_map (Option.map (map lower)))
+    simp (is_address_lem, suffix_lower, length-map, last_map, ← if_map (option_map (map lower)))
 
-label_under_lem : (rules : List Rule) (h : Bytes) → label_under rules (lower h) ≡ Option.map lower (label_under rules h)
+label_under_lem : (rules : List Rule) (h : Bytes) → label_under rules (lower h) ≡ option_map lower (label_under rules h)
 unfolding label_under
 label_under_lem rules h = simp (labels_lower, labels_of) (go (private_labels rules (labels h)))
   where
-    go : (o : Option (List Bytes)) → (Option.map (map lower) o >>= λ ls. some (join_with 46 ls)) ≡ Option.map lower (o >>= λ ls. some (join_with 46 ls))
-    go none = refl
-    go (some ls) = simp join_lower
+    go : (o : Option (List Bytes)) → (option_map (map lower) o >>= λ ls. Some (join_with 46 ls)) ≡ option_map lower (o >>= λ ls. Some (join_with 46 ls))
+    go None = refl
+    go (Some ls) = simp join_lower
 
 -- the label of a host in lower case is the label in lower case
-pub private_label_lem : (table h : Bytes) → private_label table (lower h) ≡ Option.map lower (private_label table h)
+pub private_label_lem : (table h : Bytes) → private_label table (lower h) ≡ option_map lower (private_label table h)
 unfolding private_label
 private_label_lem table h = simp is_host_lem (go (is_host h) (read_table table))
   where
-    go : (u : Bool) (t : Option (List Rule)) → (if u then (t >>= λ rules. label_under rules (lower h)) else none) ≡ Option.map lower (if u then (t >>= λ rules. label_under rules h) else none)
+    go : (u : Bool) (t : Option (List Rule)) → (if u then (t >>= λ rules. label_under rules (lower h)) else None) ≡ option_map lower (if u then (t >>= λ rules. label_under rules h) else None)
     go false t = refl
-    go true none = refl
-    go true (some rules) = label_under_lem rules h
+    go true None = refl
+    go true (Some rules) = label_under_lem rules h

@@ -1,30 +1,25 @@
 -- How deep rules go along a host. Assumes nothing.
-use Rattle.std.specs.Prelude.{if◌then◌else◌}
+use Rattle.std.specs.Prelude.{if◌then◌else◌, Option, None, Some}
 use mathlib.Core.Path.{◌≡◌, refl, sym, ap, ◌∙◌}
 use mathlib.Core.Bool.{Bool, true, false, ◌&&◌, ◌||◌, and-eq-true_iff}
 use mathlib.Core.List.{List, [], ◌∷◌}
-use mathlib.Core.Option.{Option, none, some}
-use Prim.Native.Nat.{ℕ, suc, ◌+◌, ◌-◌, ◌≤◌, ◌<◌, max}
+use Prim.Native.Nat.{ℕ, suc, ◌-◌, ◌≤◌, max}
 use native.Mathlib.Omega.{arith}
 use lib.ListN.{length, take, drop}
 use lib.Dec.{leb, ltb}
 use borrow.Author.Tests.{lt-leb, le-leb, lt-ltb, ltb-true, ltb-false, leb-true, leb-false}
-use Rattle.ascii.specs.Ascii.{Bytes, ◌>>=◌, is_none, any, take_while, last_of, split_at, same, begins_with}
-use Rattle.hosts.specs.Host.{labels, is_host}
-use Rattle.hosts.specs.code.Place.{Stands, ends_at_label}
-use Rattle.suffix.specs.Suffix.{Rule, normal, exceptional, content, is_skipped, read_rule, read_lines, read_table, all_match}
+use Rattle.ascii.specs.Ascii.{Bytes, ◌>>=◌, is_none, any, take_while, last_of, split_at, begins_with}
+use Rattle.hosts.specs.Host.{labels}
+use Rattle.hosts.specs.code.Place.{Stands}
+use Rattle.suffix.specs.Suffix.{Rule, content, is_skipped, read_rule, read_lines, read_table, all_match}
 use Rattle.suffix.specs.code.Pass.{best_of, one_rule, read_line}
 use Rattle.suffix.specs.code.Deeper.{goes_deeper}
 use Rattle.suffix.specs.code.Depth.{depth_of, deepest, line_depth, lines_depth, Good, Past}
-use Rattle.suffix.specs.declared.Best.{Best}
-use Rattle.suffix.specs.declared.Best.TheVariants.{Sizes}
-use Rattle.ascii.proofs.Compare.{same_eq}
-use Rattle.hosts.proofs.Ends.{true_false, labels_some}
-use Rattle.suffix.proofs.Ends.{wild}
+use Rattle.suffix.specs.declared.Sizes.{Sizes}
+use Rattle.hosts.proofs.Ends.{true_false}
 use Rattle.suffix.proofs.Speed.{length_last, last_last, deep_match, last_names}
 use Rattle.hosts.proofs.Places.{rest_whole}
-use Rattle.suffix.proofs.Lines.{rule_host, rule_wild, rule_wild_long, rule_wild_bad, rule_exception, rule_exception_one, rule_exception_bad, rule_star, begins_is, empty_skipped, comment_skipped, other_read}
-use Rattle.suffix.proofs.Deepens.{wild_goes}
+use Rattle.suffix.proofs.Lines.{empty_skipped, comment_skipped}
 
 -- ---- deeper than k labels is deeper than fewer
 
@@ -85,32 +80,6 @@ unfolding any deepest
 any_depth k hl [] h l = sym (lt-leb k 0 h)
 any_depth k hl (r ∷ rules) h l = rw (leb_depth k hl r h l, any_depth k hl rules h l) (leb_max k (depth_of hl r) (deepest hl rules))
 
--- ---- the climb
-
--- from the depth d on
-pub record Climb (host : Bytes) (r : Rule) (d k : ℕ) : Type 0 where
-  pub from : d ≤ k
-  pub up : k ≤ max d (depth_of (labels host) r)
-
-pub climb_starts : (host : Bytes) (r : Rule) (d : ℕ) → Climb host r d d
-climb_starts host r d = record { from = omega arith; up = omega arith }
-
-module _ {host : Bytes} {r : Rule} {d k : ℕ} (C : Climb host r d k) where
-  pub climb_ends : {n : ℕ} → n ≡ length (labels host) → n ≤ k → k ≡ max d (depth_of (labels host) r)
-  climb_ends e l = omega (arith, C.from, C.up, depth_le (labels host) r)
-
-  module _ {n at : ℕ} {b : Bool} (e : n ≡ length (labels host)) (l : k < n) (S : Stands (last_of (k + 1) (labels host)) host at)
-      (t : b ≡ goes_deeper (labels (take (length host - at) (drop at host))) r) where
-    tested : b ≡ leb (k + 1) (depth_of (labels host) r)
-    tested = t ∙ ap (λ (m : List Bytes). goes_deeper m r) (ap labels (rest_whole host at ∙ S.is) ∙ last_names host (k + 1) (omega arith))
-        ∙ leb_depth (k + 1) (labels host) r (omega arith) (omega arith)
-
-    pub climb_more : b ≡ true → Climb host r d (k + 1)
-    climb_more w = record { from = omega (arith, C.from); up = omega (arith, leb-true (k + 1) (depth_of (labels host) r) (sym tested ∙ w)) }
-
-    pub climb_stops : b ≡ false → k ≡ max d (depth_of (labels host) r)
-    climb_stops w = omega (arith, C.from, C.up, leb-false (k + 1) (depth_of (labels host) r) (sym tested ∙ w))
-
 -- a rule that does not go deeper than one label more than d
 pub shallow : (host tail : Bytes) (r : Rule) (d : ℕ) {b : Bool} → Past host tail d → b ≡ goes_deeper (labels tail) r → b ≡ false → d ≡ max d (depth_of (labels host) r)
 shallow host tail r d T t w = go (ltb d (length (labels host))) refl
@@ -125,49 +94,11 @@ shallow host tail r d T t w = go (ltb d (length (labels host))) refl
 pub past_is : (host : Bytes) (d : ℕ) {at : ℕ} → Stands (last_of (suc d) (labels host)) host at → Past host (take (length host - at) (drop at host)) d
 past_is host d {at} S = record { is = ap labels (rest_whole host at ∙ S.is) ∙ last_names host (suc d) (omega arith) }
 
--- a line that goes no deeper than any label
-pub kept : (d : ℕ) {n : ℕ} → 0 ≡ n → d ≡ max d n
-kept d e = omega (arith, e)
-
 -- ---- one line
 
-pub depth_one : (hl : List Bytes) (r : Rule) → depth_of hl r ≡ line_depth hl (one_rule (some r))
+pub depth_one : (hl : List Bytes) (r : Rule) → depth_of hl r ≡ line_depth hl (one_rule (Some r))
 unfolding line_depth one_rule deepest
 depth_one hl r = omega arith
-
-same_depth : (hl ns : List Bytes) → depth_of hl (normal ns) ≡ depth_of hl (exceptional ns)
-unfolding depth_of goes_deeper
-same_depth [] ns = refl
-same_depth (l ∷ ls) ns = rw (same_depth ls ns)
-
-pub told_none : {A : Type 0} (o : Option Rule) → is_none (one_rule o) ≡ false → o ≡ none → A
-unfolding one_rule
-told_none none g e = true_false g
-told_none (some r) g e = let z : ◌≡◌ {A = ℕ} 0 1 = cc in absurd (omega arith)
-
-pub record Reads (v : Bytes) (o : Option Rule) (r : Rule) : Type 0 where
-  pub host : is_host v ≡ true
-  pub is : o ≡ some r
-
-pub wild_reads : (v : Bytes) → is_none (one_rule (read_rule (42 ∷ 46 ∷ v))) ≡ false → Reads v (read_rule (42 ∷ 46 ∷ v)) (wild v)
-wild_reads v g = go (is_host v) (leb (length v) 251) refl refl
-  where
-    go : (a b : Bool) → is_host v ≡ a → leb (length v) 251 ≡ b → Reads v (read_rule (42 ∷ 46 ∷ v)) (wild v)
-    go false b e f = told_none (read_rule (42 ∷ 46 ∷ v)) g (rule_wild_bad v e)
-    go true false e f = told_none (read_rule (42 ∷ 46 ∷ v)) g (rule_wild_long v (leb-false (length v) 251 f))
-    go true true e f = record { host = e; is = rule_wild v e (leb-true (length v) 251 f) }
-
-pub exception_reads : (v : Bytes) → is_none (one_rule (read_rule (33 ∷ v))) ≡ false → Reads v (read_rule (33 ∷ v)) (exceptional (labels v))
-exception_reads v g = go (is_host v) (leb 2 (length (labels v))) refl refl
-  where
-    go : (a b : Bool) → is_host v ≡ a → leb 2 (length (labels v)) ≡ b → Reads v (read_rule (33 ∷ v)) (exceptional (labels v))
-    go false b e f = told_none (read_rule (33 ∷ v)) g (rule_exception_bad v e)
-    go true false e f = told_none (read_rule (33 ∷ v)) g (rule_exception_one v (leb-false 2 (length (labels v)) f))
-    go true true e f = record { host = e; is = rule_exception v e (leb-true 2 (length (labels v)) f) }
-
-line_read : (w : Bytes) → is_skipped w ≡ false → read_line w ≡ one_rule (read_rule w)
-unfolding read_line
-line_read w e = rw e
 
 line_skip : (hl : List Bytes) (w : Bytes) → is_skipped w ≡ true → 0 ≡ line_depth hl (read_line w)
 unfolding read_line line_depth deepest
@@ -180,73 +111,26 @@ module _ (h w : Bytes) where
   pub depth_comment : {c : Bool} → c ≡ begins_with (47 ∷ 47 ∷ []) w → c ≡ true → 0 ≡ line_depth (labels h) (read_line w)
   depth_comment e f = line_skip (labels h) w (comment_skipped w (sym e ∙ f))
 
-  module _ {c : Bool} (n : length w ≡ 0 → ⊥) (e : c ≡ begins_with (47 ∷ 47 ∷ []) w) (f : c ≡ false) where
-    pub rule_line : read_line w ≡ one_rule (read_rule w)
-    rule_line = line_read w (other_read w n (sym e ∙ f))
-
-    pub depth_star : {b : Bool} → b ≡ same w (42 ∷ []) → b ≡ true → 0 ≡ line_depth (labels h) (read_line w)
-    depth_star i j = rw (rule_line, same_eq w (42 ∷ []) (sym i ∙ j), rule_star) (none_deep ∙ depth_one (labels h) (normal ((42 ∷ []) ∷ [])))
-      where
-        none_deep : 0 ≡ depth_of (labels h) (normal ((42 ∷ []) ∷ []))
-        none_deep =
-            let x : goes_deeper (last_of 1 (labels h)) (normal ((42 ∷ []) ∷ [])) ≡ false = goes_at 1 (labels h) (normal ((42 ∷ []) ∷ [])) (labels_some h) in
-            omega (arith, leb-false 1 (depth_of (labels h) (normal ((42 ∷ []) ∷ []))) (sym (leb_depth 1 (labels h) (normal ((42 ∷ []) ∷ [])) (omega arith) (labels_some h)) ∙ x))
-
-    module _ (g : Good w) where
-      pub rule_good : is_none (one_rule (read_rule w)) ≡ false
-      rule_good = rw rule_line at g.is
-
-      module _ {b : Bool} (i : b ≡ begins_with (42 ∷ 46 ∷ []) w) (j : b ≡ true) where
-        pub line_wild : Reads (drop 2 w) (read_rule w) (wild (drop 2 w))
-        line_wild = rw (← begins_is (42 ∷ 46 ∷ []) w (sym i ∙ j)) at (wild_reads (drop 2 w) (rw (← begins_is (42 ∷ 46 ∷ []) w (sym i ∙ j)) rule_good))
-
-        pub depth_wild_host : is_host (take (length w - 2) (drop 2 w)) ≡ true
-        depth_wild_host = rw (rest_whole w 2) line_wild.host
-
-        pub depth_wild : (d : ℕ) {q : ℕ} → q ≡ max d (depth_of (labels h) (normal ((42 ∷ []) ∷ labels (take (length w - 2) (drop 2 w))))) → q ≡ max d (line_depth (labels h) (read_line w))
-        depth_wild d k = k ∙ ap (max d) (rw (rest_whole w 2, rule_line, line_wild.is) (depth_one (labels h) (wild (drop 2 w))))
-
-      module _ {b : Bool} (i : b ≡ begins_with (33 ∷ []) w) (j : b ≡ true) where
-        pub line_exception : Reads (drop 1 w) (read_rule w) (exceptional (labels (drop 1 w)))
-        line_exception = rw (← begins_is (33 ∷ []) w (sym i ∙ j)) at (exception_reads (drop 1 w) (rw (← begins_is (33 ∷ []) w (sym i ∙ j)) rule_good))
-
-        pub depth_exception_host : is_host (take (length w - 1) (drop 1 w)) ≡ true
-        depth_exception_host = rw (rest_whole w 1) line_exception.host
-
-        pub depth_exception : (d : ℕ) {q : ℕ} → q ≡ max d (depth_of (labels h) (normal (labels (take (length w - 1) (drop 1 w))))) → q ≡ max d (line_depth (labels h) (read_line w))
-        depth_exception d k = k ∙ ap (max d) (rw (rest_whole w 1, rule_line, line_exception.is) (same_depth (labels h) (labels (drop 1 w)) ∙ depth_one (labels h) (exceptional (labels (drop 1 w)))))
-
-      module _ {x y z : Bool} (a : x ≡ same w (42 ∷ [])) (a' : x ≡ false) (b : y ≡ begins_with (42 ∷ 46 ∷ []) w) (b' : y ≡ false) (d : z ≡ begins_with (33 ∷ []) w) (d' : z ≡ false) where
-        pub depth_host_host : is_host w ≡ true
-        depth_host_host = go (is_host w) refl
-          where
-            go : (u : Bool) → is_host w ≡ u → u ≡ true
-            go true k = refl
-            go false k = told_none (read_rule w) rule_good (unfold read_rule in (rw (k, sym a ∙ a', sym b ∙ b', sym d ∙ d')))
-
-        pub depth_host : (d : ℕ) {q : ℕ} → q ≡ max d (depth_of (labels h) (normal (labels w))) → q ≡ max d (line_depth (labels h) (read_line w))
-        depth_host d k = k ∙ ap (max d) (rw (rule_line, rule_host w depth_host_host) (depth_one (labels h) (normal (labels w))))
-
 -- ---- the pass
 
-pub lines_rules : (hl ls : List Bytes) (rules : List Rule) → read_lines ls ≡ some rules → lines_depth hl ls ≡ deepest hl rules
+pub lines_rules : (hl ls : List Bytes) (rules : List Rule) → read_lines ls ≡ Some rules → lines_depth hl ls ≡ deepest hl rules
 unfolding read_lines lines_depth deepest
 lines_rules hl [] rules e = let z : rules ≡ [] = cc in rw z
 lines_rules hl (l ∷ ls) rules e = go (is_skipped (content l)) (read_rule (content l)) (read_lines ls) refl refl (lines_rules hl ls) e
   where
-    line_of : (u : Bool) (o : Option Rule) → is_skipped (content l) ≡ u → read_rule (content l) ≡ o → read_line (content l) ≡ (if u then some [] else one_rule o)
+    line_of : (u : Bool) (o : Option Rule) → is_skipped (content l) ≡ u → read_rule (content l) ≡ o → read_line (content l) ≡ (if u then Some [] else one_rule o)
     line_of u o e f = unfold read_line in (rw (e, f))
 
     go : (u : Bool) (o : Option Rule) (os : Option (List Rule)) → is_skipped (content l) ≡ u → read_rule (content l) ≡ o
-        → ((rs : List Rule) → os ≡ some rs → lines_depth hl ls ≡ deepest hl rs)
-        → (if u then os else (o >>= λ r. os >>= λ rs. some (r ∷ rs))) ≡ some rules → max (line_depth hl (read_line (content l))) (lines_depth hl ls) ≡ deepest hl rules
+        → ((rs : List Rule) → os ≡ Some rs → lines_depth hl ls ≡ deepest hl rs)
+        → (if u then os else (o >>= λ r. os >>= λ rs. Some (r ∷ rs))) ≡ Some rules → max (line_depth hl (read_line (content l))) (lines_depth hl ls) ≡ deepest hl rules
     go true o os e f ih p =
         let d : line_depth hl (read_line (content l)) ≡ 0 = ap (line_depth hl) (line_of true o e f) ∙ (unfold line_depth deepest in refl) in
         rw (d, ih rules p) (omega arith)
-    go false none os e f ih p = let z : ◌≡◌ {A = ℕ} 0 1 = cc in absurd (omega arith)
-    go false (some r) none e f ih p = let z : ◌≡◌ {A = ℕ} 0 1 = cc in absurd (omega arith)
-    go false (some r) (some rs) e f ih p =
-        let d : line_depth hl (read_line (content l)) ≡ depth_of hl r = ap (line_depth hl) (line_of false (some r) e f) ∙ sym (depth_one hl r) in
+    go false None os e f ih p = let z : ◌≡◌ {A = ℕ} 0 1 = cc in absurd (omega arith)
+    go false (Some r) None e f ih p = let z : ◌≡◌ {A = ℕ} 0 1 = cc in absurd (omega arith)
+    go false (Some r) (Some rs) e f ih p =
+        let d : line_depth hl (read_line (content l)) ≡ depth_of hl r = ap (line_depth hl) (line_of false (Some r) e f) ∙ sym (depth_one hl r) in
         let z : rules ≡ r ∷ rs = cc in
         rw (d, ih rs refl, z)
 
@@ -259,12 +143,12 @@ unfolding lines_depth split_at read_line content take_while is_skipped line_dept
 lines_done hl = refl
 
 -- lines that find something are good
-pub found_good : (hl : List Bytes) (o : Option (List Rule)) {e m : ℕ} → Sizes e m ≡ best_of hl o → is_none o ≡ false
+pub found_good : (hl : List Bytes) (o : Option (List Rule)) {s : Sizes} → Some s ≡ best_of hl o → is_none o ≡ false
 unfolding best_of
-found_good hl none z = let w : ◌≡◌ {A = ℕ} 0 1 = cc in absurd (omega arith)
-found_good hl (some rs) z = refl
+found_good hl None z = let w : ◌≡◌ {A = ℕ} 0 1 = cc in absurd (omega arith)
+found_good hl (Some rs) z = refl
 
-pub line_good : (hl : List Bytes) (x : Bytes) {q : Best} {e m : ℕ} → q ≡ best_of hl (read_line x) → q ≡ Sizes e m → Good x
+pub line_good : (hl : List Bytes) (x : Bytes) {q : Option Sizes} {s : Sizes} → q ≡ best_of hl (read_line x) → q ≡ Some s → Good x
 line_good hl x p t = record { is = found_good hl (read_line x) (sym t ∙ p) }
 
 -- a good table is not too long
@@ -272,13 +156,10 @@ pub table_short : (table : Bytes) → is_none (read_table table) ≡ false → l
 unfolding read_table
 table_short table g = go (leb (length table) 1048576) refl g
   where
-    go : (u : Bool) → leb (length table) 1048576 ≡ u → is_none (if u then read_lines (split_at 10 table) else none) ≡ false → length table ≤ 1048576
+    go : (u : Bool) → leb (length table) 1048576 ≡ u → is_none (if u then read_lines (split_at 10 table) else None) ≡ false → length table ≤ 1048576
     go true e g = leb-true (length table) 1048576 e
     go false e g = true_false g
 
 pub table_read : (table : Bytes) → length table ≤ 1048576 → read_lines (split_at 10 table) ≡ read_table table
 unfolding read_table
 table_read table l = rw (le-leb (length table) 1048576 l)
-
-pub wild_goes_is : (v w : Bytes) {q : Bool} → is_host w ≡ true → q ≡ ends_at_label v w → q ≡ goes_deeper (labels v) (normal ((42 ∷ []) ∷ labels w))
-wild_goes_is v w h e = e ∙ wild_goes v w h

@@ -1,9 +1,8 @@
 -- Lines and rules cut in two: what both parts read and find together. Assumes nothing.
-use Rattle.std.specs.Prelude.{if◌then◌else◌}
+use Rattle.std.specs.Prelude.{if◌then◌else◌, Option, None, Some}
 use mathlib.Core.Path.{◌≡◌, refl, sym, ap, ◌∙◌}
 use mathlib.Core.Bool.{Bool, true, false}
 use mathlib.Core.List.{List, [], ◌∷◌, ◌++◌}
-use mathlib.Core.Option.{Option, none, some}
 use Prim.Native.Nat.{ℕ, max}
 use native.Mathlib.Omega.{arith}
 use lib.Dec.{eqb}
@@ -27,23 +26,23 @@ split_both c (b ∷ x) y = go (eqb b c) (split_parts c x) (split_both c x y)
     go false P ih = unfold join_head in (rw (ih, P.is))
 
 -- the rules of two lists of lines, the first one's first
-pub read_both : (ks ls : List Bytes) → read_lines (ks ++ ls) ≡ (read_lines ks >>= λ xs. read_lines ls >>= λ ys. some (xs ++ ys))
+pub read_both : (ks ls : List Bytes) → read_lines (ks ++ ls) ≡ (read_lines ks >>= λ xs. read_lines ls >>= λ ys. Some (xs ++ ys))
 unfolding read_lines
 read_both [] ls = go (read_lines ls)
   where
-    go : (o : Option (List Rule)) → o ≡ (o >>= λ ys. some ys)
-    go none = refl
-    go (some ys) = refl
+    go : (o : Option (List Rule)) → o ≡ (o >>= λ ys. Some ys)
+    go None = refl
+    go (Some ys) = refl
 read_both (k ∷ ks) ls = go (is_skipped (content k)) (read_rule (content k)) (read_lines ks) (read_lines ls) (read_both ks ls)
   where
-    go : (u : Bool) (r : Option Rule) (o p : Option (List Rule)) → read_lines (ks ++ ls) ≡ (o >>= λ xs. p >>= λ ys. some (xs ++ ys))
-        → (if u then read_lines (ks ++ ls) else (r >>= λ r. read_lines (ks ++ ls) >>= λ rs. some (r ∷ rs)))
-        ≡ ((if u then o else (r >>= λ r. o >>= λ rs. some (r ∷ rs))) >>= λ xs. p >>= λ ys. some (xs ++ ys))
+    go : (u : Bool) (r : Option Rule) (o p : Option (List Rule)) → read_lines (ks ++ ls) ≡ (o >>= λ xs. p >>= λ ys. Some (xs ++ ys))
+        → (if u then read_lines (ks ++ ls) else (r >>= λ r. read_lines (ks ++ ls) >>= λ rs. Some (r ∷ rs)))
+        ≡ ((if u then o else (r >>= λ r. o >>= λ rs. Some (r ∷ rs))) >>= λ xs. p >>= λ ys. Some (xs ++ ys))
     go true r o p ih = ih
-    go false none o p ih = refl
-    go false (some r) none p ih = rw ih
-    go false (some r) (some xs) none ih = rw ih
-    go false (some r) (some xs) (some ys) ih = rw ih
+    go false None o p ih = refl
+    go false (Some r) None p ih = rw ih
+    go false (Some r) (Some xs) None ih = rw ih
+    go false (Some r) (Some xs) (Some ys) ih = rw ih
 
 pub deepest_both : (hl : List Bytes) (xs ys : List Rule) → deepest hl (xs ++ ys) ≡ max (deepest hl xs) (deepest hl ys)
 unfolding deepest

@@ -1,10 +1,10 @@
 -- Lines that find nothing for a host. Assumes nothing.
+use Rattle.std.specs.Prelude.{Option}
 use mathlib.Core.Path.{◌≡◌, refl, sym, ap, ◌∙◌}
 use mathlib.Core.Bool.{Bool, true, false, ◌&&◌, ◌||◌, and-eq-true_iff}
 use mathlib.Core.List.{List, [], ◌∷◌, map}
 use Prim.Native.Nat.{ℕ, zero, suc, ◌+◌, ◌-◌, ◌≤◌, ◌<◌, max}
 use native.Mathlib.Omega.{arith}
-use native.Mathlib.Numerals.{add-one}
 use lib.ListN.{length, get_or, drop, length-drop, get_or-map}
 use lib.Seq.{drop-cons, get_or-drop}
 use lib.Dec.{eqb, leb, ltb}
@@ -15,11 +15,10 @@ use Rattle.ascii.proofs.Split.{join_split}
 use Rattle.hosts.specs.Host.{labels, is_label_byte, is_host}
 use Rattle.hosts.specs.code.Place.{Stands, is_boundary, ends_at_label}
 use Rattle.suffix.specs.Suffix.{normal, is_blank, read_rule, read_lines}
-use Rattle.suffix.specs.code.Pass.{best_of, join_best, one_rule, read_line, in_line, in_content}
+use Rattle.suffix.specs.code.Pass.{sizes_of, sized, best_of, join_best, one_rule, read_line, in_line, in_content}
 use Rattle.suffix.specs.code.Depth.{line_depth, lines_depth, Past}
 use Rattle.suffix.specs.code.Deeper.{goes_deeper}
-use Rattle.suffix.specs.declared.Best.{Best}
-use Rattle.suffix.specs.declared.Best.TheVariants.{Sizes}
+use Rattle.suffix.specs.declared.Sizes.{Sizes}
 use Rattle.suffix.specs.code.Passed.{lines_from}
 use Rattle.suffix.specs.code.Idle.{Idle, Shallow, last_byte, is_alphanumeric}
 use Rattle.ascii.proofs.Compare.{same_eq}
@@ -48,7 +47,7 @@ idle_on host table I J = record {
 
 -- one line that finds nothing
 pub idle_line : (host table : Bytes) (at to : ℕ) → at ≤ length table → to ≡ at + length (take_while in_line (drop at table))
-    → Sizes 0 0 ≡ best_of (labels host) (read_line (take_while in_content (drop at table))) → 0 ≡ line_depth (labels host) (read_line (take_while in_content (drop at table))) → Idle host table at (to + 1)
+    → sized 0 0 ≡ best_of (labels host) (read_line (take_while in_content (drop at table))) → 0 ≡ line_depth (labels host) (read_line (take_while in_content (drop at table))) → Idle host table at (to + 1)
 idle_line host table at to h g b d =
     record {
       onward = omega (arith, g);
@@ -101,7 +100,7 @@ host_read w h = rw (other_read w some (first (begins_with (47 ∷ 47 ∷ []) w) 
 
 -- a host that is no end of the other, and has not the other's last labels, one more than d, for an end
 pub record FindsTo (host w : Bytes) (d : ℕ) : Type 0 where
-  pub best : Sizes 0 0 ≡ best_of (labels host) (read_line w)
+  pub best : sized 0 0 ≡ best_of (labels host) (read_line w)
   pub depth : line_depth (labels host) (read_line w) ≤ d
 
 pub finds_to : (host tail w : Bytes) (d : ℕ) → is_host w ≡ true → Past host tail d → ends_at_label w host ≡ false → ends_at_label tail w ≡ false → FindsTo host w d
@@ -114,7 +113,7 @@ finds_to host tail w d h T e f = record {
 pub record Brings (host w : Bytes) (m d : ℕ) : Type 0 where
   pub size : ℕ
   pub small : size ≤ m
-  pub best : Sizes 0 size ≡ best_of (labels host) (read_line w)
+  pub best : sized 0 size ≡ best_of (labels host) (read_line w)
   pub depth : line_depth (labels host) (read_line w) ≤ d
 
 not_deeper : (tail w : Bytes) → is_host w ≡ true → (ltb (length tail) (length w) && ends_at_label tail w) ≡ false → false ≡ goes_deeper (labels tail) (normal (labels w))
@@ -216,9 +215,6 @@ finds_unlike host w h p n =
 
 -- ---- the host's last labels, one more than the depth d
 
-pub tail_more : (host : Bytes) (d : ℕ) {n r : ℕ} → d < n → n ≡ length (labels host) → Stands (last_of (d + 1) (labels host)) host r → Stands (last_of (suc d) (labels host)) host r
-tail_more host d {r = r} h e S = rw (add-one) at S
-
 pub stands_whole : (host : Bytes) (k : ℕ) → length (labels host) ≤ k → Stands (last_of k (labels host)) host 0
 unfolding last_of labels
 stands_whole host k h = let z : length (split_at 46 host) - k ≡ 0 = omega (arith, h) in record { inside = omega arith; is = rw z (sym (join_split 46 host)) }
@@ -226,15 +222,15 @@ stands_whole host k h = let z : length (split_at 46 host) - k ≡ 0 = omega (ari
 pub tail_whole : (host : Bytes) (d : ℕ) {n : ℕ} → n ≤ d → n ≡ length (labels host) → Stands (last_of (suc d) (labels host)) host 0
 tail_whole host d h e = stands_whole host (suc d) (omega (arith, e))
 
-join_small : (m n : ℕ) (b : Best) → n ≤ m → join_best (Sizes 0 m) (join_best (Sizes 0 n) b) ≡ join_best (Sizes 0 m) b
-join_small m n b h = let z : max m n ≡ m = omega arith in join_join 0 m 0 n b ∙ rw z
+join_small : (m n : ℕ) (b : Option Sizes) → n ≤ m → join_best (sized 0 m) (join_best (sized 0 n) b) ≡ join_best (sized 0 m) b
+join_small m n b h = let z : max m n ≡ m = omega arith in join_join (sizes_of 0 m) (sizes_of 0 n) b ∙ rw z
 
 pub shallow_line : (host table : Bytes) (m d at to : ℕ) → at ≤ length table → to ≡ at + length (take_while in_line (drop at table)) → Brings host (take_while in_content (drop at table)) m d → Shallow host table m d at (to + 1)
 shallow_line host table m d at to h g F =
     record {
       onward = omega (arith, g);
       inside = omega (arith, scan_to in_line table at to g h);
-      best = ap (join_best (Sizes 0 m)) (lines_at (labels host) table at to g) ∙ rw (← F.best) (join_small m F.size (best_of (labels host) (read_lines (split_at 10 (drop (to + 1) table)))) F.small);
+      best = ap (join_best (sized 0 m)) (lines_at (labels host) table at to g) ∙ rw (← F.best) (join_small m F.size (best_of (labels host) (read_lines (split_at 10 (drop (to + 1) table)))) F.small);
       passed = passed_line host table d at to h g (line_good (labels host) (take_while in_content (drop at table)) F.best refl) F.depth;
     }
 
@@ -251,7 +247,7 @@ pub shallow_of : {host table : Bytes} (m d : ℕ) {from to : ℕ} → Idle host 
 shallow_of m d I = record {
   onward = I.onward;
   inside = I.inside;
-  best = ap (join_best (Sizes 0 m)) I.best;
+  best = ap (join_best (sized 0 m)) I.best;
   passed = passed_more (omega arith) I.passed;
 }
 

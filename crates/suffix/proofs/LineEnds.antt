@@ -1,7 +1,7 @@
 -- The end of a line, and of what is read of it. Assumes nothing.
 use mathlib.Core.Path.{◌≡◌, refl, sym, ap, ◌∙◌}
 use mathlib.Core.Bool.{Bool, true, false}
-use Prim.Native.Nat.{ℕ, ◌+◌, ◌-◌, ◌≤◌, ◌<◌}
+use Prim.Native.Nat.{ℕ, ◌+◌, ◌≤◌, ◌<◌}
 use native.Mathlib.Omega.{arith}
 use lib.ListN.{length, get_or, drop}
 use lib.Dec.{eqb, ltb}
@@ -50,13 +50,10 @@ module _ (lo hi : ℕ) (s : Bytes) {from j : ℕ} where
       → SameEnd in_content s from j
   content_more E g l k h t w = content_next lo hi s g l k (end_next E h t w)
 
-pub content_less : (lo hi : ℕ) (s : Bytes) {i j : ℕ} → j ≡ i + 1 + length (take_while (outside lo hi) (drop (i + 1) s)) → i < length s → length s - j < length s - i
-content_less lo hi s {i} {j} g h = omega (arith, g)
-
 -- sets in which no law leads back to itself: a search that fails tries every way
 pub ruleset line_end_laws = (line_is_range, rules)
 
-pub ruleset content_laws = (content_starts, content_more, content_less, end_out, end_found, rules)
+pub ruleset content_laws = (content_starts, content_more, end_out, end_found, rules)
 
 pub ruleset content_first = (content_starts, rules)
 

@@ -1,9 +1,8 @@
 -- Lines from one place of a table to another, that go no deeper than some labels of a host. Assumes nothing.
-use Rattle.std.specs.Prelude.{if◌then◌else◌}
+use Rattle.std.specs.Prelude.{if◌then◌else◌, Option, None, Some}
 use mathlib.Core.Path.{◌≡◌, refl, sym, ap, ◌∙◌}
 use mathlib.Core.Bool.{Bool, true, false}
 use mathlib.Core.List.{List, [], ◌∷◌, ◌++◌, append_assoc}
-use mathlib.Core.Option.{Option, none, some}
 use Prim.Native.Nat.{ℕ, ◌+◌, ◌≤◌}
 use native.Mathlib.Omega.{arith}
 use lib.ListN.{length, drop}
@@ -39,10 +38,10 @@ pub read_one : (l : Bytes) → read_lines (l ∷ []) ≡ read_line (content l)
 unfolding read_lines read_line
 read_one l = go (is_skipped (content l)) (read_rule (content l))
   where
-    go : (u : Bool) (o : Option Rule) → (if u then some [] else (o >>= λ r. some (r ∷ []))) ≡ (if u then some [] else one_rule o)
+    go : (u : Bool) (o : Option Rule) → (if u then Some [] else (o >>= λ r. Some (r ∷ []))) ≡ (if u then Some [] else one_rule o)
     go true o = refl
-    go false none = unfold one_rule in refl
-    go false (some r) = unfold one_rule in refl
+    go false None = unfold one_rule in refl
+    go false (Some r) = unfold one_rule in refl
 
 -- one good line
 pub passed_line : (host table : Bytes) (d at to : ℕ) → at ≤ length table → to ≡ at + length (take_while in_line (drop at table)) → Good (take_while in_content (drop at table))
@@ -50,8 +49,8 @@ pub passed_line : (host table : Bytes) (d at to : ℕ) → at ≤ length table �
 passed_line host table d at to h g G l = go (read_line (take_while in_content (drop at table))) refl G.is l
   where
     go : (o : Option (List Rule)) → read_line (take_while in_content (drop at table)) ≡ o → is_none o ≡ false → line_depth (labels host) o ≤ d → Passed host table d at (to + 1)
-    go none e n l = true_false n
-    go (some rules) e n l = record {
+    go None e n l = true_false n
+    go (Some rules) e n l = record {
       lines = take_while in_line (drop at table) ∷ [];
       rules = rules;
       are = lines_in table at h ∙ lines_cut table at to g;
@@ -59,5 +58,5 @@ passed_line host table d at to h g G l = go (read_line (take_while in_content (d
       depth = deep l;
     }
       where
-        deep : line_depth (labels host) (some rules) ≤ d → deepest (labels host) rules ≤ d
+        deep : line_depth (labels host) (Some rules) ≤ d → deepest (labels host) rules ≤ d
         deep l = unfold line_depth in l

@@ -1,9 +1,8 @@
 -- The pass over the table, line by line. Assumes nothing.
-use Rattle.std.specs.Prelude.{if◌then◌else◌}
-use mathlib.Core.Path.{◌≡◌, refl, sym, ap₂, ◌∙◌}
+use Rattle.std.specs.Prelude.{if◌then◌else◌, Option, None, Some}
+use mathlib.Core.Path.{◌≡◌, refl, sym, ap, ap₂, ◌∙◌}
 use mathlib.Core.Bool.{Bool, true, false, ◌&&◌, not, and-false, or-true, and-eq-true_iff}
 use mathlib.Core.List.{List, [], ◌∷◌}
-use mathlib.Core.Option.{Option, none, some}
 use Prim.Native.Nat.{ℕ, suc, ◌+◌, ◌-◌, ◌≤◌, ◌<◌, max}
 use native.Mathlib.Omega.{arith}
 use native.Mathlib.Numerals.{add-one}
@@ -18,10 +17,9 @@ use Rattle.ascii.proofs.Scan.{while_stops, scan_rest, scan_part, scan_to}
 use Rattle.ascii.proofs.Split.{on_first, split_while, on_first_end, on_first_here}
 use Rattle.hosts.specs.Host.{labels}
 use Rattle.suffix.specs.Suffix.{Rule, is_blank, content, is_skipped, read_rule, read_lines, read_table, matches}
-use Rattle.suffix.specs.code.Pass.{max_labels, sizes, best_of, join_best, one_rule, read_line, in_line, in_content}
+use Rattle.suffix.specs.code.Pass.{sizes_of, sized, max_labels, sizes, best_of, joined, join_best, one_rule, read_line, in_line, in_content}
 use Rattle.suffix.specs.code.Passed.{lines_from}
-use Rattle.suffix.specs.declared.Best.{Best}
-use Rattle.suffix.specs.declared.Best.TheVariants.{Bad, Sizes}
+use Rattle.suffix.specs.declared.Sizes.{Sizes}
 
 -- ---- bytes of a line
 
@@ -59,27 +57,39 @@ module _ (b : ℕ) where
 
 -- ---- findings
 
-pub join_zero : (b : Best) → join_best (Sizes 0 0) b ≡ b
+pub join_zero : (b : Option Sizes) → join_best (sized 0 0) b ≡ b
 unfolding join_best
-join_zero Bad = refl
-join_zero (Sizes e m) = ap₂ Sizes (omega arith) (omega arith)
+join_zero None = refl
+join_zero (Some s) = ap₂ sized (omega arith) (omega arith)
 
-pub join_bad : (b : Best) → join_best b Bad ≡ Bad
+pub join_bad : (b : Option Sizes) → join_best b None ≡ None
 unfolding join_best
-join_bad Bad = refl
-join_bad (Sizes e m) = refl
+join_bad None = refl
+join_bad (Some s) = refl
 
-pub join_assoc : (a b c : Best) → join_best (join_best a b) c ≡ join_best a (join_best b c)
+pub join_assoc : (a b c : Option Sizes) → join_best (join_best a b) c ≡ join_best a (join_best b c)
 unfolding join_best
-join_assoc Bad b c = refl
-join_assoc (Sizes e m) Bad c = refl
-join_assoc (Sizes e m) (Sizes f n) Bad = refl
-join_assoc (Sizes e m) (Sizes f n) (Sizes g k) = ap₂ Sizes (omega arith) (omega arith)
+join_assoc None b c = refl
+join_assoc (Some s) None c = refl
+join_assoc (Some s) (Some t) None = refl
+join_assoc (Some s) (Some t) (Some u) = ap₂ sized (omega arith) (omega arith)
 
-pub join_join : (e m f n : ℕ) (b : Best) → join_best (Sizes e m) (join_best (Sizes f n) b) ≡ join_best (Sizes (max e f) (max m n)) b
+pub join_join : (s t : Sizes) (b : Option Sizes) → join_best (Some s) (join_best (Some t) b) ≡ join_best (Some (joined s t)) b
 unfolding join_best
-join_join e m f n Bad = refl
-join_join e m f n (Sizes g k) = ap₂ Sizes (omega arith) (omega arith)
+join_join s t None = refl
+join_join s t (Some u) = ap₂ sized (omega arith) (omega arith)
+
+-- equal findings have equal numbers
+abbrev exceptions_in : Option Sizes → ℕ
+exceptions_in None = 0
+exceptions_in (Some s) = s.exception
+
+abbrev most_in : Option Sizes → ℕ
+most_in None = 0
+most_in (Some s) = s.most
+
+pub same_sizes : {e m f n : ℕ} → sized e m ≡ sized f n → (e ≡ f) × (m ≡ n)
+same_sizes h = (ap exceptions_in h, ap most_in h)
 
 most_one : (n k : ℕ) → max (max n 0) k ≡ max n k
 most_one n k = omega arith
@@ -88,19 +98,19 @@ zero_most : (k : ℕ) → max 0 k ≡ k
 zero_most k = omega arith
 
 -- one rule more
-rule_more : (host : List Bytes) (r : Rule) (rs : List Rule) → best_of host (some (r ∷ rs)) ≡ join_best (best_of host (some (r ∷ []))) (best_of host (some rs))
+rule_more : (host : List Bytes) (r : Rule) (rs : List Rule) → best_of host (Some (r ∷ rs)) ≡ join_best (best_of host (Some (r ∷ []))) (best_of host (Some rs))
 unfolding best_of sizes join_best filter_by max_labels
 rule_more host r rs = go (matches host r)
   where
     inner : (x : Bool) (n : ℕ) (ms : List Rule)
-        → Sizes (max_labels (if x then r ∷ filter_by (λ r. r.exception) ms else filter_by (λ r. r.exception) ms)) (max n (max_labels ms))
-        ≡ Sizes (max (max_labels (if x then r ∷ [] else [])) (max_labels (filter_by (λ r. r.exception) ms))) (max (max n 0) (max_labels ms))
-    inner true n ms = ap₂ Sizes (sym (most_one (length r.names) (max_labels (filter_by (λ r. r.exception) ms)))) (sym (most_one n (max_labels ms)))
-    inner false n ms = ap₂ Sizes (sym (zero_most (max_labels (filter_by (λ r. r.exception) ms)))) (sym (most_one n (max_labels ms)))
+        → sized (max_labels (if x then r ∷ filter_by (λ r. r.exception) ms else filter_by (λ r. r.exception) ms)) (max n (max_labels ms))
+        ≡ sized (max (max_labels (if x then r ∷ [] else [])) (max_labels (filter_by (λ r. r.exception) ms))) (max (max n 0) (max_labels ms))
+    inner true n ms = ap₂ sized (sym (most_one (length r.names) (max_labels (filter_by (λ r. r.exception) ms)))) (sym (most_one n (max_labels ms)))
+    inner false n ms = ap₂ sized (sym (zero_most (max_labels (filter_by (λ r. r.exception) ms)))) (sym (most_one n (max_labels ms)))
 
-    go : (u : Bool) → sizes (if u then r ∷ filter_by (matches host) rs else filter_by (matches host) rs) ≡ join_best (sizes (if u then r ∷ [] else [])) (sizes (filter_by (matches host) rs))
+    go : (u : Bool) → Some (sizes (if u then r ∷ filter_by (matches host) rs else filter_by (matches host) rs)) ≡ join_best (Some (sizes (if u then r ∷ [] else []))) (Some (sizes (filter_by (matches host) rs)))
     go true = inner r.exception (length r.names) (filter_by (matches host) rs)
-    go false = sym (join_zero (sizes (filter_by (matches host) rs)))
+    go false = sym (join_zero (Some (sizes (filter_by (matches host) rs))))
 
 -- one line more
 pub lines_step : (host : List Bytes) (l : Bytes) (ls : List Bytes) → best_of host (read_lines (l ∷ ls)) ≡ join_best (best_of host (read_line (content l))) (best_of host (read_lines ls))
@@ -108,17 +118,17 @@ unfolding read_lines read_line
 lines_step host l ls = go (is_skipped (content l)) (read_rule (content l)) (read_lines ls)
   where
     go : (u : Bool) (r : Option Rule) (rs : Option (List Rule))
-        → best_of host (if u then rs else (r >>= λ r. rs >>= λ rs. some (r ∷ rs))) ≡ join_best (best_of host (if u then some [] else one_rule r)) (best_of host rs)
+        → best_of host (if u then rs else (r >>= λ r. rs >>= λ rs. Some (r ∷ rs))) ≡ join_best (best_of host (if u then Some [] else one_rule r)) (best_of host rs)
     go true r rs = unfold best_of sizes filter_by max_labels in (sym (join_zero (best_of host rs)))
-    go false none rs = unfold best_of one_rule join_best in refl
-    go false (some r) none = unfold best_of one_rule in (sym (join_bad (sizes (filter_by (matches host) (r ∷ [])))))
-    go false (some r) (some rs) = unfold one_rule in (rule_more host r rs)
+    go false None rs = unfold best_of one_rule join_best in refl
+    go false (Some r) None = unfold best_of one_rule in (sym (join_bad (Some (sizes (filter_by (matches host) (r ∷ []))))))
+    go false (Some r) (Some rs) = unfold one_rule in (rule_more host r rs)
 
 none_left : (host : List Bytes) → best_of host (read_lines (split_at 10 [])) ≡ best_of host (read_lines [])
 unfolding split_at read_lines content take_while is_skipped
 none_left host = refl
 
-pub none_sizes : (host : List Bytes) → best_of host (read_lines []) ≡ Sizes 0 0
+pub none_sizes : (host : List Bytes) → best_of host (read_lines []) ≡ sized 0 0
 unfolding read_lines best_of sizes filter_by max_labels
 none_sizes host = refl
 
@@ -214,39 +224,40 @@ next_line s at to k g i = i ∙ rw (scan_rest in_content s at to g) (omega (arit
 
 -- ---- the loop
 
-pub record Pass (host table : Bytes) (goal : Best) (e m at : ℕ) : Type 0 where
-  pub is : join_best (Sizes e m) (best_of (labels host) (read_lines (split_at 10 (drop at table)))) ≡ goal
+pub record Pass (host table : Bytes) (goal : Option Sizes) (s : Sizes) (at : ℕ) : Type 0 where
+  pub is : join_best (Some s) (best_of (labels host) (read_lines (split_at 10 (drop at table)))) ≡ goal
 
-pub pass_starts : (host table : Bytes) → length table ≤ 1048576 → Pass host table (best_of (labels host) (read_table table)) 0 0 0
+pub pass_starts : (host table : Bytes) → length table ≤ 1048576 → Pass host table (best_of (labels host) (read_table table)) (sizes_of 0 0) 0
 unfolding read_table
 pass_starts host table l = record { is = rw (le-leb (length table) 1048576 l) (join_zero (best_of (labels host) (read_lines (split_at 10 table)))) }
 
-module _ {host table : Bytes} {goal : Best} {e m at : ℕ} (P : Pass host table goal e m at) where
-  pub pass_ends : length table ≤ at → Sizes e m ≡ goal
-  pass_ends l = sym (rw (drop_of_length-le table l, none_left (labels host), none_sizes (labels host)) (zeros e m)) ∙ P.is
-    where
-      zeros : (e m : ℕ) → join_best (Sizes e m) (Sizes 0 0) ≡ Sizes e m
-      zeros e m = unfold join_best in (ap₂ Sizes (omega arith) (omega arith))
+join_none : (s : Sizes) → join_best (Some s) (sized 0 0) ≡ Some s
+unfolding join_best
+join_none s = ap₂ sized (omega arith) (omega arith)
+
+module _ {host table : Bytes} {goal : Option Sizes} {s : Sizes} {at : ℕ} (P : Pass host table goal s at) where
+  pub pass_ends : length table ≤ at → Some s ≡ goal
+  pass_ends l = sym (rw (drop_of_length-le table l, none_left (labels host), none_sizes (labels host)) (join_none s)) ∙ P.is
 
   module _ {to : ℕ} (g : to ≡ at + length (take_while in_content (drop at table))) where
-    module _ {q : Best} (t : q ≡ best_of (labels host) (read_line (take (to - at) (drop at table)))) where
+    module _ {q : Option Sizes} (t : q ≡ best_of (labels host) (read_line (take (to - at) (drop at table)))) where
       found : best_of (labels host) (read_line (take_while in_content (drop at table))) ≡ q
       found = sym (t ∙ rw (scan_part in_content table at to g))
 
-      pass_on : {k : ℕ} → k ≡ to + length (take_while in_line (drop to table)) → join_best (Sizes e m) (join_best q (best_of (labels host) (read_lines (split_at 10 (drop (k + 1) table))))) ≡ goal
+      pass_on : {k : ℕ} → k ≡ to + length (take_while in_line (drop to table)) → join_best (Some s) (join_best q (best_of (labels host) (read_lines (split_at 10 (drop (k + 1) table))))) ≡ goal
       pass_on {k} i =
           let j = next_line table at to k g i in
           rw (← found, ← lines_at (labels host) table at k j) P.is
 
-      pub pass_bad : q ≡ Bad → Bad ≡ goal
-      pass_bad b = sym (joined q b) ∙ pass_on refl
+      pub pass_bad : q ≡ None → None ≡ goal
+      pass_bad b = sym (joined_bad q b) ∙ pass_on refl
         where
-          joined : (q : Best) → q ≡ Bad → join_best (Sizes e m) (join_best q (best_of (labels host) (read_lines (split_at 10 (drop (to + length (take_while in_line (drop to table)) + 1) table))))) ≡ Bad
-          joined q b = unfold join_best in (rw b)
+          joined_bad : (q : Option Sizes) → q ≡ None → join_best (Some s) (join_best q (best_of (labels host) (read_lines (split_at 10 (drop (to + length (take_while in_line (drop to table)) + 1) table))))) ≡ None
+          joined_bad q b = unfold join_best in (rw b)
 
-      module _ {f n k : ℕ} (b : q ≡ Sizes f n) (i : k ≡ to + length (take_while in_line (drop to table))) where
-        pub pass_more : {x y : ℕ} → x ≡ max e f → y ≡ max m n → Pass host table goal x y (k + 1)
-        pass_more c d = record { is = rw (c, d, ← join_join, ← b) (pass_on i) }
+      module _ {u : Sizes} {k : ℕ} (b : q ≡ Some u) (i : k ≡ to + length (take_while in_line (drop to table))) where
+        pub pass_more : {x : Sizes} → x ≡ joined s u → Pass host table goal x (k + 1)
+        pass_more c = record { is = rw (c, ← join_join, ← b) (pass_on i) }
 
 pub pass_fits : (table : Bytes) {at to k : ℕ} → k ≡ to + length (take_while in_line (drop to table)) → to ≡ at + length (take_while in_content (drop at table)) → at < length table → length table ≤ 1048576 → Fits w64 (k + 1)
 pass_fits table {at} {to} {k} i g l m =

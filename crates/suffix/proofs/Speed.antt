@@ -1,10 +1,9 @@
 -- A host that ends in the label of another has that label exactly where both have as long a public suffix; where no rule goes
 -- deeper than the label, always. Assumes nothing.
-use Rattle.std.specs.Prelude.{if◌then◌else◌}
+use Rattle.std.specs.Prelude.{if◌then◌else◌, Option, None, Some}
 use mathlib.Core.Path.{◌≡◌, refl, sym, ap, ◌∙◌}
 use mathlib.Core.Bool.{Bool, true, false, ◌&&◌, ◌||◌, and-eq-true_iff}
 use mathlib.Core.List.{List, [], ◌∷◌, map}
-use mathlib.Core.Option.{Option, none, some}
 use Prim.Native.Nat.{ℕ, zero, suc, ◌+◌, ◌-◌, ◌≤◌, ◌<◌}
 use native.Mathlib.Omega.{arith}
 use lib.ListN.{length, drop, length-drop, length-map}
@@ -113,7 +112,7 @@ pub record LabelIs (rules : List Rule) (host ls : List Bytes) : Type 0 where
   pub name : is_address host ≡ false
   pub is : ls ≡ last_of (size + 1) host
 
-pub label_is : (rules : List Rule) (host ls : List Bytes) → private_labels rules host ≡ some ls → LabelIs rules host ls
+pub label_is : (rules : List Rule) (host ls : List Bytes) → private_labels rules host ≡ Some ls → LabelIs rules host ls
 unfolding private_labels public_suffix
 label_is rules host ls p = go (is_address host) (leb (length host) (length (last_of n host))) refl refl p
   where
@@ -121,7 +120,7 @@ label_is rules host ls p = go (is_address host) (leb (length host) (length (last
     n = suffix_size (prevailing (filter_by (matches host) rules))
 
     go : (u v : Bool) → is_address host ≡ u → leb (length host) (length (last_of n host)) ≡ v
-        → (if u then none else if v then none else some (last_of (length (last_of n host) + 1) host)) ≡ some ls → LabelIs rules host ls
+        → (if u then None else if v then None else Some (last_of (length (last_of n host) + 1) host)) ≡ Some ls → LabelIs rules host ls
     go true v a b p = let z : ◌≡◌ {A = ℕ} 0 1 = cc in absurd (omega arith)
     go false true a b p = let z : ◌≡◌ {A = ℕ} 0 1 = cc in absurd (omega arith)
     go false false a b p =
@@ -132,13 +131,13 @@ label_is rules host ls p = go (is_address host) (leb (length host) (length (last
         record { size = n; suffix = refl; below = omega arith; name = a; is = sym q ∙ rw f }
 
 pub is_label_lem : (rules : List Rule) (host : List Bytes) (n : ℕ) → suffix_size (prevailing (filter_by (matches host) rules)) ≡ n → n < length host → is_address host ≡ false
-    → private_labels rules host ≡ some (last_of (n + 1) host)
+    → private_labels rules host ≡ Some (last_of (n + 1) host)
 unfolding private_labels public_suffix
 is_label_lem rules host n s b a = let f = length_last n host (omega arith) in rw (a, s, f, lt-leb (length host) n b)
 
 -- ---- the law, on labels
 
-module _ (rules : List Rule) (host₀ ls : List Bytes) (p : private_labels rules host₀ ≡ some ls) where
+module _ (rules : List Rule) (host₀ ls : List Bytes) (p : private_labels rules host₀ ≡ Some ls) where
   P : LabelIs rules host₀ ls
   P = label_is rules host₀ ls p
 
@@ -156,7 +155,7 @@ module _ (rules : List Rule) (host₀ ls : List Bytes) (p : private_labels rules
     same_size : any (goes_deeper ls) rules ≡ false → length ls ≤ length host → Alike (last_of (length ls) host) ls → suffix_size (prevailing (filter_by (matches host) rules)) ≡ P.size
     same_size d l e = ap (λ (ms : List Rule). suffix_size (prevailing ms)) (rules_same ls host l e rules d ∙ sym (rules_same ls host₀ inside own rules d)) ∙ P.suffix
 
-    alike_labels : suffix_size (prevailing (filter_by (matches host) rules)) ≡ P.size → length ls ≤ length host → Alike (last_of (length ls) host) ls → private_labels rules host ≡ some (last_of (length ls) host)
+    alike_labels : suffix_size (prevailing (filter_by (matches host) rules)) ≡ P.size → length ls ≤ length host → Alike (last_of (length ls) host) ls → private_labels rules host ≡ Some (last_of (length ls) host)
     alike_labels f l e =
         let a : is_address host ≡ false =
         address_same ls host l e (omega (arith, size_ls)) ∙ sym (address_same ls host₀ inside own (omega (arith, size_ls))) ∙ P.name in
@@ -167,7 +166,7 @@ module _ (rules : List Rule) (host₀ ls : List Bytes) (p : private_labels rules
       fits : length ls ≤ length host
       alike : Alike (last_of (length ls) host) ls
 
-    labels_alike : (ms : List Bytes) → private_labels rules host ≡ some ms → Alike ms ls → Ends
+    labels_alike : (ms : List Bytes) → private_labels rules host ≡ Some ms → Alike ms ls → Ends
     labels_alike ms q e =
         let Q = label_is rules host ms q in
         let n : length ms ≡ Q.size + 1 = ap length Q.is ∙ length_last (Q.size + 1) host (omega (arith, Q.below)) in
@@ -202,27 +201,27 @@ host_labels h e = ((and-eq-true_iff (between 1 253 (length h)) (all is_label (la
 -- what stands behind a label that there is
 pub record Opened (table host label : Bytes) : Type 0 where
   pub rules : List Rule
-  pub read : read_table table ≡ some rules
+  pub read : read_table table ≡ Some rules
   pub good : is_host host ≡ true
   pub parts : List Bytes
-  pub found : private_labels rules (labels host) ≡ some parts
+  pub found : private_labels rules (labels host) ≡ Some parts
   pub is : label ≡ join_with 46 parts
 
-pub opened : (table host label : Bytes) → private_label table host ≡ some label → Opened table host label
+pub opened : (table host label : Bytes) → private_label table host ≡ Some label → Opened table host label
 unfolding private_label
 opened table host label p = go (is_host host) (read_table table) refl refl p
   where
-    under : (rules : List Rule) → is_host host ≡ true → read_table table ≡ some rules → (o : Option (List Bytes)) → private_labels rules (labels host) ≡ o
-        → (o >>= λ ls. some (join_with 46 ls)) ≡ some label → Opened table host label
-    under rules a b none c p = let z : ◌≡◌ {A = ℕ} 0 1 = cc in absurd (omega arith)
-    under rules a b (some ls) c p = let e : join_with 46 ls ≡ label = cc in record { rules = rules; read = b; good = a; parts = ls; found = c; is = sym e }
+    under : (rules : List Rule) → is_host host ≡ true → read_table table ≡ Some rules → (o : Option (List Bytes)) → private_labels rules (labels host) ≡ o
+        → (o >>= λ ls. Some (join_with 46 ls)) ≡ Some label → Opened table host label
+    under rules a b None c p = let z : ◌≡◌ {A = ℕ} 0 1 = cc in absurd (omega arith)
+    under rules a b (Some ls) c p = let e : join_with 46 ls ≡ label = cc in record { rules = rules; read = b; good = a; parts = ls; found = c; is = sym e }
 
-    go : (u : Bool) (o : Option (List Rule)) → is_host host ≡ u → read_table table ≡ o → (if u then (o >>= λ rules. label_under rules host) else none) ≡ some label → Opened table host label
+    go : (u : Bool) (o : Option (List Rule)) → is_host host ≡ u → read_table table ≡ o → (if u then (o >>= λ rules. label_under rules host) else None) ≡ Some label → Opened table host label
     go false o a b p = let z : ◌≡◌ {A = ℕ} 0 1 = cc in absurd (omega arith)
-    go true none a b p = let z : ◌≡◌ {A = ℕ} 0 1 = cc in absurd (omega arith)
-    go true (some rules) a b p = under rules a b (private_labels rules (labels host)) refl (unfold label_under in p)
+    go true None a b p = let z : ◌≡◌ {A = ℕ} 0 1 = cc in absurd (omega arith)
+    go true (Some rules) a b p = under rules a b (private_labels rules (labels host)) refl (unfold label_under in p)
 
-module _ (table host₀ label : Bytes) (p : private_label table host₀ ≡ some label) where
+module _ (table host₀ label : Bytes) (p : private_label table host₀ ≡ Some label) where
   O : Opened table host₀ label
   O = opened table host₀ label p
 
@@ -260,7 +259,7 @@ module _ (table host₀ label : Bytes) (p : private_label table host₀ ≡ some
   unfolding size_in
   size_in_lem h F = let e : O.rules ≡ F.rules = go (read_table table) O.read F.read in rw e F.size
     where
-      go : (o : Option (List Rule)) {rs ss : List Rule} → o ≡ some rs → o ≡ some ss → rs ≡ ss
+      go : (o : Option (List Rule)) {rs ss : List Rule} → o ≡ Some rs → o ≡ Some ss → rs ≡ ss
       go o e f = cc
 
   home_size : size_in host₀ ≡ L.size
@@ -274,7 +273,7 @@ module _ (table host₀ label : Bytes) (p : private_label table host₀ ≡ some
       ap length (names ∙ L.is) ∙ length_last (L.size + 1) (labels host₀) (omega (arith, L.below)) ∙ rw e
 
   module _ (h : Bytes) (a : is_host h ≡ true) where
-    under : private_label table h ≡ (private_labels O.rules (labels h) >>= λ ls. some (join_with 46 ls))
+    under : private_label table h ≡ (private_labels O.rules (labels h) >>= λ ls. Some (join_with 46 ls))
     unfolding private_label label_under
     under = rw (a, O.read)
 
@@ -286,9 +285,9 @@ module _ (table host₀ label : Bytes) (p : private_label table host₀ ≡ some
     unfolding is_the_label same_no_case size_in L P
     has t = go (private_labels O.rules (labels h)) refl (rw under at t)
       where
-        go : (o : Option (List Bytes)) → private_labels O.rules (labels h) ≡ o → is_the_label label (o >>= λ ls. some (join_with 46 ls)) ≡ true → Has
-        go none q t = true_false (sym t)
-        go (some ms) q t =
+        go : (o : Option (List Bytes)) → private_labels O.rules (labels h) ≡ o → is_the_label label (o >>= λ ls. Some (join_with 46 ls)) ≡ true → Has
+        go None q t = true_false (sym t)
+        go (Some ms) q t =
             let Q = label_is O.rules (labels h) ms q in
             let n : labels (join_with 46 ms) ≡ ms = rw Q.is (last_names h (Q.size + 1) (omega arith)) in
             let e : Alike ms O.parts = ap (map lower) (sym n) ∙ names_lower (join_with 46 ms) label (same_eq (lower (join_with 46 ms)) (lower label) t) ∙ ap (map lower) names in

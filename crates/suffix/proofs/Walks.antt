@@ -1,5 +1,5 @@
 -- The loop over the bytes of lines that find nothing. Assumes nothing.
-use Rattle.std.specs.Prelude.{if◌then◌else◌}
+use Rattle.std.specs.Prelude.{if◌then◌else◌, Option, None, Some}
 use mathlib.Core.Path.{◌≡◌, refl, sym, ap, ◌∙◌}
 use mathlib.Core.Bool.{Bool, true, false, ◌&&◌, ◌||◌, or-true}
 use mathlib.Core.List.{◌∷◌}
@@ -18,13 +18,11 @@ use Rattle.ascii.proofs.Scan.{scan_part}
 use Rattle.hosts.specs.Host.{labels}
 use Rattle.suffix.specs.code.Pass.{read_line, in_line}
 use Rattle.suffix.specs.code.Depth.{line_depth}
-use Rattle.suffix.specs.code.Idle.{Idle, last_byte, is_alphanumeric, kind_of, KindsOf, kind_in, step_of, stop_of, HostLine, Stopped, at_host, at_other, start_of, end_of, StoppedBy}
-use Rattle.suffix.specs.declared.skips.Step.{Step}
-use Rattle.suffix.specs.declared.skips.Step.TheVariants.{On, Off}
+use Rattle.suffix.specs.code.Idle.{Idle, last_byte, is_alphanumeric, kind_of, step_of, stop_of, HostLine, Stopped, at_host, at_other}
 use Rattle.suffix.specs.declared.skips.Stop.{Stop}
 use Rattle.suffix.specs.declared.skips.Stop.TheVariants.{Host, Other}
 use Rattle.suffix.proofs.Passes.{line_other}
-use Rattle.suffix.proofs.KindLaws.{kind_lf, kind_in_lem}
+use Rattle.suffix.proofs.KindLaws.{kind_lf}
 use Rattle.suffix.proofs.PlainHosts.{no_plain, lf_plain, may_follow, shape_from, shape_content, shape_host}
 use Rattle.suffix.proofs.IdleLines.{idle_none, idle_on, idle_line, FindsTo, finds_unlike}
 
@@ -177,15 +175,20 @@ record Told (k p start next s n : ℕ) : Type 0 where
   pub starts : s ≡ (if eqb k 8 then next else start)
   pub same : n ≡ k
 
-step_told : (k p start next s n : ℕ) → step_of k p start next ≡ On s n → Told k p start next s n
+abbrev start_in : Option (ℕ × ℕ) → ℕ
+start_in None = 0
+start_in (Some r) = r.0
+
+abbrev kind_in : Option (ℕ × ℕ) → ℕ
+kind_in None = 0
+kind_in (Some r) = r.1
+
+step_told : (k p start next s n : ℕ) → step_of k p start next ≡ Some (s, n) → Told k p start next s n
 unfolding step_of
 step_told k p start next s n e = go (leb (p + 3 * k) 24) refl e
   where
-    go : (u : Bool) → leb (p + 3 * k) 24 ≡ u → (if u then On (if eqb k 8 then next else start) k else Off) ≡ On s n → Told k p start next s n
-    go true h e =
-        let x : s ≡ (if eqb k 8 then next else start) = cc in
-        let y : n ≡ k = cc in
-        record { sum = leb-true (p + 3 * k) 24 h; starts = x; same = y }
+    go : (u : Bool) → leb (p + 3 * k) 24 ≡ u → if◌then◌else◌ {A = Option (ℕ × ℕ)} u (Some ((if eqb k 8 then next else start), k)) None ≡ Some (s, n) → Told k p start next s n
+    go true h e = record { sum = leb-true (p + 3 * k) 24 h; starts = sym (ap start_in e); same = sym (ap kind_in e) }
     go false h e = let z : ◌≡◌ {A = ℕ} 0 1 = cc in absurd (omega arith)
 
 lf_of : (last b k : ℕ) → KindIs last b k → k ≡ 8 → b ≡ 10
@@ -262,118 +265,85 @@ module _ {host table : Bytes} {from start i p room : ℕ} (W : Walk host table f
           let n = eqb-false (kind_of (last_byte host) (get_or table i 0)) 8 e in
           rw (f, T.same) (byte_passed (λ b. n (sym (kind_lf (last_byte host) (get_or table i 0) b))) T.sum)
 
-module _ {host table kinds : Bytes} (K : KindsOf host kinds) {from start i p room : ℕ} (l : i < length table) where
-  walk_on : Walk host table from start i p (suc room) → {q : Step} {s n : ℕ} (j : ℕ) → j ≡ i + 1 → q ≡ On s n → q ≡ step_of (kind_in kinds (get_or table i 0)) p start (i + 1) → Walk host table from s j n room
-  walk_on W {s = s} {n = n} j z e f =
-      let t : step_of (kind_of (last_byte host) (get_or table i 0)) p start (i + 1) ≡ On s n =
-      sym (rw (kind_in_lem K (get_or table i 0)) at f) ∙ e in
-      rw z (walk_told W l (step_told (kind_of (last_byte host) (get_or table i 0)) p start (i + 1) s n t))
+module _ {host table : Bytes} {from start i p room : ℕ} (l : i < length table) where
+  walk_on : Walk host table from start i p (suc room) → {q : Option (ℕ × ℕ)} {s n : ℕ} (j : ℕ) → j ≡ i + 1 → q ≡ Some (s, n) → q ≡ step_of (kind_of (last_byte host) (get_or table i 0)) p start (i + 1)
+      → Walk host table from s j n room
+  walk_on W {s = s} {n = n} j z e f = rw z (walk_told W l (step_told (kind_of (last_byte host) (get_or table i 0)) p start (i + 1) s n (sym f ∙ e)))
 
-  walk_stop : Walk host table from start i p room → {r : Stop} → r ≡ stop_of (kind_in kinds (get_or table i 0)) p start i → Stopped host table from r
-  walk_stop W {r} f = rw f (go (eqb (kind_in kinds (get_or table i 0)) 8) (eqb p 1) refl refl)
+  walk_stop : Walk host table from start i p room → {r : Stop} → r ≡ stop_of (kind_of (last_byte host) (get_or table i 0)) p start i → Stopped host table from r
+  walk_stop W {r} f = rw f (go (eqb (kind_of (last_byte host) (get_or table i 0)) 8) (eqb p 1) refl refl)
     where
-      go : (u v : Bool) → eqb (kind_in kinds (get_or table i 0)) 8 ≡ u → eqb p 1 ≡ v → Stopped host table from (stop_of (kind_in kinds (get_or table i 0)) p start i)
+      go : (u v : Bool) → eqb (kind_of (last_byte host) (get_or table i 0)) 8 ≡ u → eqb p 1 ≡ v → Stopped host table from (stop_of (kind_of (last_byte host) (get_or table i 0)) p start i)
       go u v e g = unfold stop_of in (rw (e, g) (both u v e g))
         where
-          both : (u v : Bool) → eqb (kind_in kinds (get_or table i 0)) 8 ≡ u → eqb p 1 ≡ v → Stopped host table from (if u && v then Host start i else Other start)
+          both : (u v : Bool) → eqb (kind_of (last_byte host) (get_or table i 0)) 8 ≡ u → eqb p 1 ≡ v → Stopped host table from (if u && v then Host start i else Other start)
           both true true e g =
-              let k : kind_of (last_byte host) (get_or table i 0) ≡ 8 = sym (kind_in_lem K (get_or table i 0)) ∙ eqb-true (kind_in kinds (get_or table i 0)) 8 e in
+              let k = eqb-true (kind_of (last_byte host) (get_or table i 0)) 8 e in
               let b = lf_of (last_byte host) (get_or table i 0) (kind_of (last_byte host) (get_or table i 0)) (kind_is (last_byte host) (get_or table i 0)) k in
               let q = plain_of (last_byte host) (prev_of table start i) p (rw W.kind (kind_is (last_byte host) (prev_of table start i))) (omega (arith, eqb-true p 1 g)) in
               at_host W.idle (line_is W l b q)
           both true false e g = at_other W.idle (omega (arith, W.onward, W.inside))
           both false v e g = at_other W.idle (omega (arith, W.onward, W.inside))
 
--- ---- by a table of kinds that is lent
-
-pub record WalkBy (kinds host table : Bytes) (from start i p room : ℕ) : Type 0 where
-  pub begun : from ≤ start
-  pub onward : start ≤ i
-  pub is : KindsOf host kinds → Walk host table from start i p room
-
-module _ {kinds host table : Bytes} {from start i p room : ℕ} (l : i < length table) where
-  by_on : WalkBy kinds host table from start i p (suc room) → {q : Step} {s n : ℕ} (j : ℕ) → j ≡ i + 1 → q ≡ On s n → q ≡ step_of (kind_in kinds (get_or table i 0)) p start (i + 1) → WalkBy kinds host table from s j n room
-  by_on W {s = s} {n = n} j z e f = go (eqb (kind_in kinds (get_or table i 0)) 8) (step_told (kind_in kinds (get_or table i 0)) p start (i + 1) s n (sym f ∙ e)).starts
-    where
-      go : (u : Bool) → s ≡ (if u then i + 1 else start) → WalkBy kinds host table from s j n room
-      go true t = record { begun = omega (arith, W.begun, W.onward, t); onward = omega (arith, t, z); is = λ K. walk_on K l (W.is K) j z e f }
-      go false t = record { begun = omega (arith, W.begun, t); onward = omega (arith, W.onward, t, z); is = λ K. walk_on K l (W.is K) j z e f }
-
-  by_stop : WalkBy kinds host table from start i p room → {r : Stop} → r ≡ stop_of (kind_in kinds (get_or table i 0)) p start i → StoppedBy kinds host table from r
-  by_stop W {r} f = go (eqb (kind_in kinds (get_or table i 0)) 8 && eqb p 1) (unfold stop_of in f)
-    where
-      go : (u : Bool) → r ≡ (if u then Host start i else Other start) → StoppedBy kinds host table from r
-      go true e = unfold start_of end_of in record { begun = rw e W.begun; onward = rw e W.onward; inside = rw e (omega arith); is = λ K. walk_stop K l (W.is K) f }
-      go false e = unfold start_of end_of in record { begun = rw e W.begun; onward = rw e (omega arith); inside = rw e (omega (arith, W.onward)); is = λ K. walk_stop K l (W.is K) f }
-
 -- ---- the turns of the loop, four bytes each
 
 walk_room : {host table : Bytes} {from start i p : ℕ} → Walk host table from start i p 0 → i - start < 60 → Walk host table from start i p 4
 walk_room W h = record { onward = W.onward; inside = W.inside; short = omega (arith, W.onward, h); idle = W.idle; kind = W.kind; shape = W.shape; scan = W.scan }
 
-by_room : {kinds host table : Bytes} {from start i p : ℕ} → WalkBy kinds host table from start i p 0 → i - start < 60 → WalkBy kinds host table from start i p 4
-by_room W h = record { begun = W.begun; onward = W.onward; is = λ K. walk_room (W.is K) h }
-
-pub record Turn (host table kinds : Bytes) (from start i p : ℕ) : Type 0 where
+pub record Turn (host table : Bytes) (from start i p : ℕ) : Type 0 where
   pub onward : start ≤ i
   pub inside : i ≤ length table
-  pub walk : WalkBy kinds host table from start i p 0
+  pub walk : Walk host table from start i p 0
 
-turn_of : {host table kinds : Bytes} {from start i p : ℕ} → i ≤ length table → WalkBy kinds host table from start i p 0 → Turn host table kinds from start i p
-turn_of h W = record { onward = W.onward; inside = h; walk = W }
+turn_of : {host table : Bytes} {from start i p : ℕ} → Walk host table from start i p 0 → Turn host table from start i p
+turn_of W = record { onward = W.onward; inside = W.inside; walk = W }
 
-pub turn_starts : (host table kinds : Bytes) {from : ℕ} → from ≤ length table → Turn host table kinds from from from 8
-turn_starts host table kinds h = turn_of h (record { begun = omega arith; onward = omega arith; is = λ K. walk_starts host table h })
+pub turn_starts : (host table : Bytes) {from : ℕ} → from ≤ length table → Turn host table from from from 8
+turn_starts host table h = turn_of (walk_starts host table h)
 
-pub turn_ends : {host table kinds : Bytes} {from start i p : ℕ} → Turn host table kinds from start i p → StoppedBy kinds host table from (Other start)
-unfolding start_of end_of
-turn_ends W = record {
-  begun = W.walk.begun;
-  onward = omega arith;
-  inside = omega (arith, W.onward, W.inside);
-  is = λ K. at_other (W.walk.is K).idle (omega (arith, W.onward, W.inside));
-}
+pub turn_ends : {host table : Bytes} {from start i p : ℕ} → Turn host table from start i p → Stopped host table from (Other start)
+turn_ends T = at_other T.walk.idle (omega (arith, T.onward, T.inside))
 
-module _ {host table kinds : Bytes} {from start i p : ℕ} (T : Turn host table kinds from start i p) (h : 4 ≤ length table - i) where
-  W : WalkBy kinds host table from start i p 0
+module _ {host table : Bytes} {from start i p : ℕ} (T : Turn host table from start i p) (h : 4 ≤ length table - i) where
+  W : Walk host table from start i p 0
   W = T.walk
 
-  pub stop_one : {r : Stop} → r ≡ stop_of (kind_in kinds (get_or table i 0)) p start i → StoppedBy kinds host table from r
-  stop_one = by_stop (omega arith) W
+  pub stop_one : {r : Stop} → r ≡ stop_of (kind_of (last_byte host) (get_or table i 0)) p start i → Stopped host table from r
+  stop_one = walk_stop (omega arith) W
 
   -- the bytes of this turn leave the line short enough for one label
   module _ (g : i - start < 60) where
-    module _ {q : Step} {b k : ℕ} (e : q ≡ On b k) (f : q ≡ step_of (kind_in kinds (get_or table i 0)) p start (i + 1)) where
-      one : WalkBy kinds host table from b (i + 1) k 3
-      one = by_on (omega arith) (by_room W g) (i + 1) refl e f
+    module _ {q : Option (ℕ × ℕ)} {b k : ℕ} (e : q ≡ Some (b, k)) (f : q ≡ step_of (kind_of (last_byte host) (get_or table i 0)) p start (i + 1)) where
+      one : Walk host table from b (i + 1) k 3
+      one = walk_on (omega arith) (walk_room W g) (i + 1) refl e f
 
-      pub stop_two : {r : Stop} → r ≡ stop_of (kind_in kinds (get_or table (i + 1) 0)) k b (i + 1) → StoppedBy kinds host table from r
-      stop_two = by_stop (omega arith) one
+      pub stop_two : {r : Stop} → r ≡ stop_of (kind_of (last_byte host) (get_or table (i + 1) 0)) k b (i + 1) → Stopped host table from r
+      stop_two = walk_stop (omega arith) one
 
-      module _ {q₂ : Step} {c l : ℕ} (e₂ : q₂ ≡ On c l) (f₂ : q₂ ≡ step_of (kind_in kinds (get_or table (i + 1) 0)) k b (i + 1 + 1)) where
-        two : WalkBy kinds host table from c (i + 2) l 2
-        two = by_on (omega arith) one (i + 2) (omega arith) e₂ f₂
+      module _ {q₂ : Option (ℕ × ℕ)} {c l : ℕ} (e₂ : q₂ ≡ Some (c, l)) (f₂ : q₂ ≡ step_of (kind_of (last_byte host) (get_or table (i + 1) 0)) k b (i + 1 + 1)) where
+        two : Walk host table from c (i + 2) l 2
+        two = walk_on (omega arith) one (i + 2) (omega arith) e₂ f₂
 
-        pub stop_three : {r : Stop} → r ≡ stop_of (kind_in kinds (get_or table (i + 2) 0)) l c (i + 2) → StoppedBy kinds host table from r
-        stop_three = by_stop (omega arith) two
+        pub stop_three : {r : Stop} → r ≡ stop_of (kind_of (last_byte host) (get_or table (i + 2) 0)) l c (i + 2) → Stopped host table from r
+        stop_three = walk_stop (omega arith) two
 
-        module _ {q₃ : Step} {d m : ℕ} (e₃ : q₃ ≡ On d m) (f₃ : q₃ ≡ step_of (kind_in kinds (get_or table (i + 2) 0)) l c (i + 2 + 1)) where
-          three : WalkBy kinds host table from d (i + 3) m 1
-          three = by_on (omega arith) two (i + 3) (omega arith) e₃ f₃
+        module _ {q₃ : Option (ℕ × ℕ)} {d m : ℕ} (e₃ : q₃ ≡ Some (d, m)) (f₃ : q₃ ≡ step_of (kind_of (last_byte host) (get_or table (i + 2) 0)) l c (i + 2 + 1)) where
+          three : Walk host table from d (i + 3) m 1
+          three = walk_on (omega arith) two (i + 3) (omega arith) e₃ f₃
 
-          pub stop_four : {r : Stop} → r ≡ stop_of (kind_in kinds (get_or table (i + 3) 0)) m d (i + 3) → StoppedBy kinds host table from r
-          stop_four = by_stop (omega arith) three
+          pub stop_four : {r : Stop} → r ≡ stop_of (kind_of (last_byte host) (get_or table (i + 3) 0)) m d (i + 3) → Stopped host table from r
+          stop_four = walk_stop (omega arith) three
 
-          four : {q₄ : Step} {s n : ℕ} → q₄ ≡ On s n → q₄ ≡ step_of (kind_in kinds (get_or table (i + 3) 0)) m d (i + 3 + 1) → Turn host table kinds from s (i + 4) n
-          four e₄ f₄ = turn_of (omega arith) (by_on (omega arith) three (i + 4) (omega arith) e₄ f₄)
+          four : {q₄ : Option (ℕ × ℕ)} {s n : ℕ} → q₄ ≡ Some (s, n) → q₄ ≡ step_of (kind_of (last_byte host) (get_or table (i + 3) 0)) m d (i + 3 + 1) → Turn host table from s (i + 4) n
+          four e₄ f₄ = turn_of (walk_on (omega arith) three (i + 4) (omega arith) e₄ f₄)
 
 -- the same with its premises from the last to the first, as `search` finds them
-pub turn_more : {host table kinds : Bytes} {from start i p : ℕ} {q q₂ q₃ q₄ : Step} {b k c l d m s n : ℕ}
-    → q₄ ≡ On s n → q₄ ≡ step_of (kind_in kinds (get_or table (i + 3) 0)) m d (i + 3 + 1)
-    → q₃ ≡ On d m → q₃ ≡ step_of (kind_in kinds (get_or table (i + 2) 0)) l c (i + 2 + 1)
-    → q₂ ≡ On c l → q₂ ≡ step_of (kind_in kinds (get_or table (i + 1) 0)) k b (i + 1 + 1)
-    → q ≡ On b k → q ≡ step_of (kind_in kinds (get_or table i 0)) p start (i + 1)
-    → Turn host table kinds from start i p → 4 ≤ length table - i → i - start < 60 → Turn host table kinds from s (i + 4) n
+pub turn_more : {host table : Bytes} {from start i p : ℕ} {q q₂ q₃ q₄ : Option (ℕ × ℕ)} {b k c l d m s n : ℕ}
+    → q₄ ≡ Some (s, n) → q₄ ≡ step_of (kind_of (last_byte host) (get_or table (i + 3) 0)) m d (i + 3 + 1)
+    → q₃ ≡ Some (d, m) → q₃ ≡ step_of (kind_of (last_byte host) (get_or table (i + 2) 0)) l c (i + 2 + 1)
+    → q₂ ≡ Some (c, l) → q₂ ≡ step_of (kind_of (last_byte host) (get_or table (i + 1) 0)) k b (i + 1 + 1)
+    → q ≡ Some (b, k) → q ≡ step_of (kind_of (last_byte host) (get_or table i 0)) p start (i + 1)
+    → Turn host table from start i p → 4 ≤ length table - i → i - start < 60 → Turn host table from s (i + 4) n
 turn_more e₄ f₄ e₃ f₃ e₂ f₂ e f T h g = four T h g e f e₂ f₂ e₃ f₃ e₄ f₄
 
 pub ruleset walk_laws = (turn_starts, turn_ends, stop_one, stop_two, stop_three, stop_four, turn_more, rules)

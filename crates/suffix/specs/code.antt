@@ -3,3 +3,4 @@ pub mod Depth
 pub mod Passed
 pub mod Idle
 pub mod Deeper
+pub mod Form

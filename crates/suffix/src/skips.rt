@@ -4,18 +4,13 @@ ghost use Rattle.ascii.specs.Ascii.{take_while};
 ghost use Rattle.hosts.specs.Host.{labels};
 ghost use Rattle.hosts.specs.code.Place.{ends_at_label};
 ghost use Rattle.suffix.specs.code.Pass.{in_line, in_content};
-ghost use Rattle.suffix.specs.code.Idle.{Skipped, last_byte, kind_in, KindBy, KindsBy, step_of, stop_of, StoppedBy, ShallowBy};
+ghost use Rattle.suffix.specs.code.Idle.{Skipped, last_byte, kind_of, KindsOf, step_of, stop_of, Stopped, ShallowBy};
 
 use crate::in_content;
+use ascii::classes::Classes;
 
-// One byte on: where its line begins, and the byte's kind.
-#[derive(Clone, Copy)]
-pub enum Step {
-    On(usize, u8),
-    Off,
-}
-
-// The first line that may find something: a host, from its start to its end; or another line.
+// The first line that may find something: a host, from its start to its end; or another line, of which only the start is known. Two
+// findings, neither of them an error or nothing, so no Option or Result.
 #[derive(Clone, Copy)]
 pub enum Stop {
     Host(usize, usize),
@@ -37,12 +32,12 @@ fn last_byte(s: &[u8]) -> u8
     s[s.len() - 1]
 }
 
-// 0 a letter or digit, 1 one alike to `last`, 6 the hyphen, 7 the dot, 8 LF, 9 the rest.
-fn kind_of(classes: &[u8; 256], last: u8, b: u8) -> u8
-    ensures { KindBy classes.now last b result }
+// 0 a letter or digit, 1 one alike to `last`, 6 the hyphen, 7 the dot, 8 LF, 9 the rest. Numbers, since `advance` adds them.
+fn kind_of(classes: &Classes, last: u8, b: u8) -> u8
+    ensures { result ≡ kind_of last b }
 {
     // a letter or a digit
-    if classes[b as usize] < 2 {
+    if classes.class_of(b) < 2 {
         if ascii::alike(b, last) {
             return 1;
         }
@@ -60,24 +55,31 @@ fn kind_of(classes: &[u8; 256], last: u8, b: u8) -> u8
     9
 }
 
-// The kind of each byte value, for a host.
-pub fn kinds(classes: &[u8; 256], host: &[u8]) -> [u8; 256]
-    ensures { KindsBy classes.now host.now result }
-{
-    let last = last_byte(host);
-    let mut kinds = [0u8; 256];
-    let mut i = 0;
-    while i < 256 {
-        kinds[i] = kind_of(classes, last, i as u8);
-        i += 1;
-    }
-    kinds
+// A host, and the kind of each byte value for it.
+#[derive(Clone, Copy)]
+pub struct Kinds<'a> {
+    pub host: &'a [u8],
+    table: [u8; 256],
+    ghost gives: { KindsOf host.now table },
 }
 
-fn kind(kinds: &[u8; 256], b: u8) -> u8
-    ensures { result ≡ kind_in kinds.now b }
-{
-    kinds[b as usize]
+impl<'a> Kinds<'a> {
+    pub fn new(classes: &Classes, host: &'a [u8]) -> Kinds<'a>
+        ensures { result.host.now ≡ host.now }
+    {
+        let last = last_byte(host);
+        let mut table = [0u8; 256];
+        for b in 0..256 {
+            table[b] = kind_of(classes, last, b as u8);
+        }
+        Kinds { host, table }
+    }
+
+    fn kind(&self, b: u8) -> u8
+        ensures { result ≡ kind_of (last_byte self.now.host.now) b }
+    {
+        self.table[b as usize]
+    }
 }
 
 // Behind an LF, whose kind is 8, a new line begins.
@@ -87,27 +89,27 @@ fn line_start(k: u8, start: usize, next: usize) -> usize
     if k == 8 { next } else { start }
 }
 
-// The byte at a place of a line, behind one of a kind. The kinds are numbered so that it may stand there where one sum is at most
-// 24: a letter or digit (0 or 3) behind any byte; a hyphen (18) behind all but dot (7) and LF (8); a dot (21) behind a letter or
-// digit (0 or 1); an LF (24) behind one that is not alike to the host's last byte (0).
-fn advance(kinds: &[u8; 256], s: &[u8], at: usize, before: u8, start: usize) -> Step
+// The byte at a place of a line, behind one of a kind: where its line begins, and its kind. The kinds are numbered so that it may
+// stand there where one sum is at most 24: a letter or digit (0 or 3) behind any byte; a hyphen (18) behind all but dot (7) and LF (8);
+// a dot (21) behind a letter or digit (0 or 1); an LF (24) behind one that is not alike to the host's last byte (0).
+fn advance(kinds: &Kinds, s: &[u8], at: usize, before: u8, start: usize) -> Option<(usize, u8)>
     requires { at < length s.now }
-    ensures { result ≡ step_of (kind_in kinds.now (get_or s.now at 0)) before start (at + 1) }
+    ensures { result ≡ step_of (kind_of (last_byte kinds.now.host.now) (get_or s.now at 0)) before start (at + 1) }
 {
-    let k = kind(kinds, s[at]);
+    let k = kinds.kind(s[at]);
     let sum = wide(before) + 3 * wide(k);
     if 24 < sum {
-        return Step::Off;
+        return None;
     }
-    Step::On(line_start(k, start, at + 1), k)
+    Some((line_start(k, start, at + 1), k))
 }
 
 // Such a byte that may not stand there: the LF (8) behind a byte alike to the host's last (1) ends a host, all else another line.
-fn halt(kinds: &[u8; 256], s: &[u8], at: usize, before: u8, start: usize) -> Stop
+fn halt(kinds: &Kinds, s: &[u8], at: usize, before: u8, start: usize) -> Stop
     requires { at < length s.now }
-    ensures { result ≡ stop_of (kind_in kinds.now (get_or s.now at 0)) before start at }
+    ensures { result ≡ stop_of (kind_of (last_byte kinds.now.host.now) (get_or s.now at 0)) before start at }
 {
-    let k = kind(kinds, s[at]);
+    let k = kinds.kind(s[at]);
     if k == 8 {
         if before == 1 {
             return Stop::Host(start, at);
@@ -117,11 +119,11 @@ fn halt(kinds: &[u8; 256], s: &[u8], at: usize, before: u8, start: usize) -> Sto
 }
 
 // Over lines that are hosts whose last byte is not alike to the host's: these cannot match it, nor go deeper than its last label.
-// Four bytes a turn, so that the end and the line's length are tested once for four. A line of 60 bytes or more is left to
-// others: a shorter one has at most 63 behind the turn, and so no label that is too long.
-fn plain_lines(kinds: &[u8; 256], host: &[u8], s: &[u8], from: usize) -> Stop
+// Four bytes a turn, so that the end and the line's length are tested once for four, which an iterator does for each byte. A
+// line of 60 bytes or more is left to others: a shorter one has at most 63 behind the turn, and so no label that is too long.
+fn plain_lines(kinds: &Kinds, s: &[u8], from: usize) -> Stop
     requires { from ≤ length s.now }
-    ensures { StoppedBy kinds.now host.now s.now from result }
+    ensures { Stopped kinds.now.host.now s.now from result }
 {
     let mut start = from;
     // as behind an LF
@@ -136,19 +138,19 @@ fn plain_lines(kinds: &[u8; 256], host: &[u8], s: &[u8], from: usize) -> Stop
         let z = i + 3;
         let next = i + 4;
         let one = advance(kinds, s, i, before, start);
-        let Step::On(b, k) = one else {
+        let Some((b, k)) = one else {
             return halt(kinds, s, i, before, start);
         };
         let two = advance(kinds, s, x, k, b);
-        let Step::On(c, l) = two else {
+        let Some((c, l)) = two else {
             return halt(kinds, s, x, k, b);
         };
         let three = advance(kinds, s, y, l, c);
-        let Step::On(d, m) = three else {
+        let Some((d, m)) = three else {
             return halt(kinds, s, y, l, c);
         };
         let four = advance(kinds, s, z, m, d);
-        let Step::On(e, n) = four else {
+        let Some((e, n)) = four else {
             return halt(kinds, s, z, m, d);
         };
         start = e;
@@ -173,17 +175,16 @@ pub fn line_end(s: &[u8], from: usize) -> usize
 }
 
 // Where what is read of a line ends: its first blank or LF. All of these lie between the tab and the space; another byte that does
-// stands in comments only.
+// stands in comments only. A loop, since each turn begins where the search before it ended.
 pub fn content_end(s: &[u8], from: usize) -> usize
     ensures { result ≡ from + length (take_while in_content (drop from s.now)) }
 {
     let mut i = byte_search::first_in(s, from, b'\t', b' ');
     while i < s.len() {
-        if in_content(s[i]) {
-            i = byte_search::soon_in(s, i + 1, b'\t', b' ');
-        } else {
+        if !in_content(s[i]) {
             return i;
         }
+        i = byte_search::soon_in(s, i + 1, b'\t', b' ');
     }
     i
 }
@@ -208,7 +209,7 @@ fn next_line(s: &[u8], at: usize) -> usize
     line_end(s, at + 2) + 1
 }
 
-// Empty lines and comments.
+// Empty lines and comments. A loop, since each turn begins behind the line before, whose end is sought 64 bytes a turn.
 fn skip_comments(s: &[u8], from: usize) -> usize
     requires { from ≤ length s.now }
     ensures { Skipped s.now from result }
@@ -258,26 +259,27 @@ fn is_idle(host: &[u8], tail: &[u8], most: usize, w: &[u8]) -> bool
 }
 
 // The first line that may match the host in more labels than most or be an exception, or go deeper than more of its labels than
-// the depth, whose labels and one more begin at last. Where last lies behind the host's end,
-// which no caller gives, nothing is passed over.
+// the depth, whose labels and one more begin at last. Where last lies behind the host's end, which no caller gives, nothing is passed
+// over. A loop, since each turn begins where the pass before it stopped.
 pub fn idle_lines(
-    kinds: &[u8; 256],
-    host: &[u8],
+    kinds: &Kinds,
     most: usize,
     depth: usize,
     last: usize,
     s: &[u8],
     from: usize,
 ) -> usize
-    ensures { ShallowBy kinds.now host.now s.now most depth last from result }
+    ensures { ShallowBy kinds.now.host.now s.now most depth last from result }
 {
+    let host = kinds.host;
     if host.len() < last {
         return from;
     }
     let tail = &host[last..];
     let mut at = from;
+    // a loop, since each turn begins where the pass over plain lines stopped
     while at < s.len() {
-        let found = plain_lines(kinds, host, s, at);
+        let found = plain_lines(kinds, s, at);
         match found {
             Stop::Host(start, to) => {
                 if is_idle(host, tail, most, &s[start..to]) {

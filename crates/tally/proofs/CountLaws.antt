@@ -1,25 +1,18 @@
 -- The counts of the entries, entry after entry.
-use Rattle.std.specs.Prelude.{if◌then◌else◌}
+use Rattle.std.specs.Prelude.{if◌then◌else◌, Option, None, Some}
 use mathlib.Core.Path.{◌≡◌, refl, sym, ap, ◌∙◌}
 use mathlib.Core.List.{List, [], ◌∷◌}
-use mathlib.Core.Option.{Option, none, some}
 use Prim.Native.Nat.{ℕ, suc, ◌+◌, ◌≤◌, ◌<◌}
 use native.Mathlib.Omega.{arith}
 use lib.Dec.{eqb}
 use lib.ListN.{length}
 use Rattle.ascii.specs.Ascii.{Bytes, filter_by}
-use Rattle.json_text.specs.declared.Next.{Next}
-use Rattle.json_text.specs.declared.Next.TheVariants.{At, Bad}
 use Rattle.trusted_list.specs.code.Entries.{first_entry}
 use Rattle.entries.specs.Causes.{cause}
-use Rattle.entries.specs.code.Owner.{Owned, cause_of}
-use Rattle.entries.specs.code.Reading.{Reads, IdsThere, entries_at, left}
+use Rattle.entries.specs.code.Reading.{ReadsOf, IdsThere, entries_at, left}
 use Rattle.entries.specs.declared.Cause.{Cause}
 use Rattle.entries.specs.declared.Cause.TheVariants.{TooLong, OtherScheme, NotFacet, OtherLabel}
-use Rattle.entries.specs.declared.Owner.{Owner}
 use Rattle.entries.specs.declared.Entry.{Entry}
-use Rattle.entries.specs.declared.Verdict.{Verdict}
-use Rattle.entries.specs.declared.Verdict.TheVariants.{Kept, Discarded}
 use Rattle.entries.proofs.Walks.{Walk, walk_starts, walk_over, Turn, turn, next_less}
 use Rattle.tally.specs.Tally.{cause_number, Counts, count_of, counts}
 use Rattle.tally.specs.code.Meaning.{counts_of, one, plus, Under}
@@ -64,49 +57,44 @@ counts_more appid table e es = go (cause appid table e)
     all c = record { kept = length (those c 0); too_long = length (those c 1); other_scheme = length (those c 2); not_facet = length (those c 3); other_label = length (those c 4) }
 
     go : (c : Option Cause) → all c ≡ plus (one c) (counts appid table es)
-    go none = same_counts _ _ (omega arith) (omega arith) (omega arith) (omega arith) (omega arith)
-    go (some TooLong) = same_counts _ _ (omega arith) (omega arith) (omega arith) (omega arith) (omega arith)
-    go (some OtherScheme) = same_counts _ _ (omega arith) (omega arith) (omega arith) (omega arith) (omega arith)
-    go (some NotFacet) = same_counts _ _ (omega arith) (omega arith) (omega arith) (omega arith) (omega arith)
-    go (some OtherLabel) = same_counts _ _ (omega arith) (omega arith) (omega arith) (omega arith) (omega arith)
+    go None = same_counts _ _ (omega arith) (omega arith) (omega arith) (omega arith) (omega arith)
+    go (Some TooLong) = same_counts _ _ (omega arith) (omega arith) (omega arith) (omega arith) (omega arith)
+    go (Some OtherScheme) = same_counts _ _ (omega arith) (omega arith) (omega arith) (omega arith) (omega arith)
+    go (Some NotFacet) = same_counts _ _ (omega arith) (omega arith) (omega arith) (omega arith) (omega arith)
+    go (Some OtherLabel) = same_counts _ _ (omega arith) (omega arith) (omega arith) (omega arith) (omega arith)
 
 -- ---- one entry more
 
-module _ (c : Held) {v : Verdict} where
-  pub add_kept : v ≡ Kept → counts_of (record { kept = c.kept + 1; long = c.long; scheme = c.scheme; facet = c.facet; label = c.label }) ≡ plus (counts_of c) (one (cause_of v))
-  unfolding counts_of plus one cause_of
+module _ (c : Held) {x : Option Cause} where
+  pub add_kept : x ≡ None → counts_of (record { kept = c.kept + 1; long = c.long; scheme = c.scheme; facet = c.facet; label = c.label }) ≡ plus (counts_of c) (one x)
+  unfolding counts_of plus one
   add_kept h = rw h (same_counts _ _ (omega arith) (omega arith) (omega arith) (omega arith) (omega arith))
 
-  pub add_cause : {x : Cause} (d : Held) → v ≡ Discarded x → counts_of d ≡ plus (counts_of c) (one (some x)) → counts_of d ≡ plus (counts_of c) (one (cause_of v))
-  unfolding cause_of
-  add_cause d h e = e ∙ rw h
-
-module _ (c : Held) {x : Cause} where
-  pub add_long : x ≡ TooLong → counts_of (record { kept = c.kept; long = c.long + 1; scheme = c.scheme; facet = c.facet; label = c.label }) ≡ plus (counts_of c) (one (some x))
+  pub add_long : x ≡ Some TooLong → counts_of (record { kept = c.kept; long = c.long + 1; scheme = c.scheme; facet = c.facet; label = c.label }) ≡ plus (counts_of c) (one x)
   unfolding counts_of plus one
   add_long h = rw h (same_counts _ _ (omega arith) (omega arith) (omega arith) (omega arith) (omega arith))
 
-  pub add_scheme : x ≡ OtherScheme → counts_of (record { kept = c.kept; long = c.long; scheme = c.scheme + 1; facet = c.facet; label = c.label }) ≡ plus (counts_of c) (one (some x))
+  pub add_scheme : x ≡ Some OtherScheme → counts_of (record { kept = c.kept; long = c.long; scheme = c.scheme + 1; facet = c.facet; label = c.label }) ≡ plus (counts_of c) (one x)
   unfolding counts_of plus one
   add_scheme h = rw h (same_counts _ _ (omega arith) (omega arith) (omega arith) (omega arith) (omega arith))
 
-  pub add_facet : x ≡ NotFacet → counts_of (record { kept = c.kept; long = c.long; scheme = c.scheme; facet = c.facet + 1; label = c.label }) ≡ plus (counts_of c) (one (some x))
+  pub add_facet : x ≡ Some NotFacet → counts_of (record { kept = c.kept; long = c.long; scheme = c.scheme; facet = c.facet + 1; label = c.label }) ≡ plus (counts_of c) (one x)
   unfolding counts_of plus one
   add_facet h = rw h (same_counts _ _ (omega arith) (omega arith) (omega arith) (omega arith) (omega arith))
 
-  pub add_label : x ≡ OtherLabel → counts_of (record { kept = c.kept; long = c.long; scheme = c.scheme; facet = c.facet; label = c.label + 1 }) ≡ plus (counts_of c) (one (some x))
+  pub add_label : x ≡ Some OtherLabel → counts_of (record { kept = c.kept; long = c.long; scheme = c.scheme; facet = c.facet; label = c.label + 1 }) ≡ plus (counts_of c) (one x)
   unfolding counts_of plus one
   add_label h = rw h (same_counts _ _ (omega arith) (omega arith) (omega arith) (omega arith) (omega arith))
 
 -- ---- the loop
 
 -- the entries es are to come, after those that c counts
-pub record Counting (appid : Bytes) (o : Owner) (table body : Bytes) (goal : Counts) (held : Bytes) (at : Next) (c : Held) : Type 0 where
+pub record Counting (appid table body : Bytes) (goal : Counts) (held : Bytes) (at : Option ℕ) (c : Held) : Type 0 where
   pub turns : ℕ
   pub short : length body ≤ 65536
   pub small : Under turns c
   pub es : List Bytes
-  pub walk : Walk appid o table body held turns at es
+  pub walk : Walk appid table body held turns at es
   pub is : plus (counts_of c) (counts appid table es) ≡ goal
 
 under_more : {n : ℕ} {c r : Held} (x : Option Cause) → counts_of r ≡ plus (counts_of c) (one x) → Under n c → Under (suc n) r
@@ -122,29 +110,29 @@ under_more {n} {c} {r} x e U =
     }
   where
     one_small : (x : Option Cause) → ((one x).kept ≤ 1) × ((one x).too_long ≤ 1) × ((one x).other_scheme ≤ 1) × ((one x).not_facet ≤ 1) × ((one x).other_label ≤ 1)
-    one_small none = unfold one in (omega arith, omega arith, omega arith, omega arith, omega arith)
-    one_small (some TooLong) = unfold one in (omega arith, omega arith, omega arith, omega arith, omega arith)
-    one_small (some OtherScheme) = unfold one in (omega arith, omega arith, omega arith, omega arith, omega arith)
-    one_small (some NotFacet) = unfold one in (omega arith, omega arith, omega arith, omega arith, omega arith)
-    one_small (some OtherLabel) = unfold one in (omega arith, omega arith, omega arith, omega arith, omega arith)
+    one_small None = unfold one in (omega arith, omega arith, omega arith, omega arith, omega arith)
+    one_small (Some TooLong) = unfold one in (omega arith, omega arith, omega arith, omega arith, omega arith)
+    one_small (Some OtherScheme) = unfold one in (omega arith, omega arith, omega arith, omega arith, omega arith)
+    one_small (Some NotFacet) = unfold one in (omega arith, omega arith, omega arith, omega arith, omega arith)
+    one_small (Some OtherLabel) = unfold one in (omega arith, omega arith, omega arith, omega arith, omega arith)
 
-pub count_starts : (appid : Bytes) (o : Owner) (table body held : Bytes) (ids : ℕ) {at : Next} → Owned appid table o → IdsThere body ids → length body ≤ 65536 → length held ≡ 512 → at ≡ first_entry body ids
-    → Counting appid o table body (counts appid table (entries_at body ids)) held at (record { kept = 0; long = 0; scheme = 0; facet = 0; label = 0 })
-count_starts appid o table body held ids O T l w e = record {
+pub count_starts : (appid table body held : Bytes) (ids : ℕ) {at : Option ℕ} → IdsThere body ids → length body ≤ 65536 → length held ≡ 512 → at ≡ first_entry body ids
+    → Counting appid table body (counts appid table (entries_at body ids)) held at (record { kept = 0; long = 0; scheme = 0; facet = 0; label = 0 })
+count_starts appid table body held ids T l w e = record {
   turns = 0;
   short = l;
   small = record { kept = omega arith; long = omega arith; scheme = omega arith; facet = omega arith; label = omega arith };
   es = entries_at body ids;
-  walk = walk_starts appid o table body held ids O T w e;
+  walk = walk_starts appid table body held ids T w e;
   is = plus_nothing (counts appid table (entries_at body ids));
 }
 
-module _ {appid : Bytes} {o : Owner} {table body : Bytes} {goal : Counts} {held : Bytes} {at : Next} {c : Held} (S : Counting appid o table body goal held at c) where
-  pub count_over : at ≡ Bad → counts_of c ≡ goal
+module _ {appid table body : Bytes} {goal : Counts} {held : Bytes} {at : Option ℕ} {c : Held} (S : Counting appid table body goal held at c) where
+  pub count_over : at ≡ None → counts_of c ≡ goal
   count_over h = sym (ap (plus (counts_of c)) (ap (counts appid table) (walk_over S.walk h) ∙ counts_none appid table) ∙ plus_none (counts_of c)) ∙ S.is
 
-  module _ {i : ℕ} (h : at ≡ At i) {after : Bytes} {r : Entry} (R : Reads body i appid o table held after r) where
-    T : Turn appid o table body after S.turns S.es r
+  module _ {i : ℕ} (h : at ≡ Some i) {after : Bytes} {r : Entry} (R : ReadsOf body i appid table held after r) where
+    T : Turn appid table body after S.turns S.es r
     T = turn S.walk h R
 
     pub count_less : left body r.next < left body at
@@ -162,13 +150,13 @@ module _ {appid : Bytes} {o : Owner} {table body : Bytes} {goal : Counts} {held 
           label = omega (arith, U.label, S.short);
         }
 
-    pub count_more : (d : Held) → counts_of d ≡ plus (counts_of c) (one (cause_of r.verdict)) → Counting appid o table body goal after r.next d
-    count_more d a = record { turns = suc S.turns; short = S.short; small = under_more {c = c} {r = d} (cause_of r.verdict) a S.small; es = T.rest; walk = T.walk; is = is }
+    pub count_more : (d : Held) → counts_of d ≡ plus (counts_of c) (one r.cause) → Counting appid table body goal after r.next d
+    count_more d a = record { turns = suc S.turns; short = S.short; small = under_more {c = c} {r = d} r.cause a S.small; es = T.rest; walk = T.walk; is = is }
       where
         is : plus (counts_of d) (counts appid table T.rest) ≡ goal
         is =
             ap (λ (y : Counts). plus y (counts appid table T.rest)) a
-            ∙ plus_assoc (counts_of c) (one (cause_of r.verdict)) (counts appid table T.rest)
+            ∙ plus_assoc (counts_of c) (one r.cause) (counts appid table T.rest)
             ∙ ap (λ (y : Option Cause). plus (counts_of c) (plus (one y) (counts appid table T.rest))) T.cause_is
             ∙ ap (plus (counts_of c)) (sym (counts_more appid table T.entry T.rest) ∙ ap (counts appid table) (sym T.whole))
             ∙ S.is

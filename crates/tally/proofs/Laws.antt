@@ -1,11 +1,11 @@
 -- The sets of laws that answer needs.
 use borrow.Author.Rules.{rules}
 use Rattle.entries.proofs.Walks.{end_less}
-use Rattle.tally.proofs.CountLaws.{add_kept, add_cause, add_long, add_scheme, add_facet, add_label, count_starts, count_over, count_less, count_room, count_more}
-use Rattle.tally.proofs.CallLaws.{tally_refused, tally_owned, tally_there, tally_short, tally_counted}
+use Rattle.tally.proofs.CountLaws.{add_kept, add_long, add_scheme, add_facet, add_label, count_starts, count_over, count_less, count_room, count_more}
+use Rattle.tally.proofs.CallLaws.{tally_refused, tally_counted}
 
-pub ruleset laws = (add_kept, add_cause, add_long, add_scheme, add_facet, add_label, rules)
+pub ruleset laws = (add_kept, add_long, add_scheme, add_facet, add_label, rules)
 
 pub ruleset counting = (count_starts, count_over, count_less, end_less, count_room, count_more, rules)
 
-pub ruleset calls = (tally_refused, tally_owned, tally_there, tally_short, tally_counted, rules)
+pub ruleset calls = (tally_refused, tally_counted, rules)

@@ -1,8 +1,7 @@
 -- The tally counts kept entries and each of the four causes; their total is the number of entries (document 01, after the decision).
-use Rattle.std.specs.Prelude.{if◌then◌else◌}
+use Rattle.std.specs.Prelude.{if◌then◌else◌, Option, None, Some}
 use mathlib.Core.Path.{◌≡◌, refl}
 use mathlib.Core.List.{List, [], ◌∷◌}
-use mathlib.Core.Option.{Option, none, some}
 use Prim.Native.Nat.{ℕ, suc, ◌+◌}
 use native.Mathlib.Omega.{arith}
 use lib.ListN.{length}
@@ -27,11 +26,11 @@ counts_total appid table (e ∷ es) = go (cause appid table e) (counts_total app
 
     go : (c : Option Cause) → total (counts appid table es) ≡ length es
         → length (those c 0) + length (those c 1) + length (those c 2) + length (those c 3) + length (those c 4) ≡ suc (length es)
-    go none h = omega arith
-    go (some TooLong) h = omega arith
-    go (some OtherScheme) h = omega arith
-    go (some NotFacet) h = omega arith
-    go (some OtherLabel) h = omega arith
+    go None h = omega arith
+    go (Some TooLong) h = omega arith
+    go (Some OtherScheme) h = omega arith
+    go (Some NotFacet) h = omega arith
+    go (Some OtherLabel) h = omega arith
 
 -- of a tally: its counts add up to the number of selected entries
 pub tally_total : (appid : Bytes) (major minor : ℕ) (body table : Bytes) (c : Counts) → tally appid major minor body table ≡ tallied c → total c ≡ length (entries major minor body)
@@ -39,5 +38,5 @@ unfolding tally or_tally
 tally_total appid major minor body table c e = go (clean_refusal appid major minor body table) e
   where
     go : (r : Option Refusal) → or_tally r (counts appid table (entries major minor body)) ≡ tallied c → total c ≡ length (entries major minor body)
-    go none e = let z : counts appid table (entries major minor body) ≡ c = cc in rw (← z) (counts_total appid table (entries major minor body))
-    go (some r) e = let z : ◌≡◌ {A = ℕ} 0 1 = cc in absurd (omega arith)
+    go None e = let z : counts appid table (entries major minor body) ≡ c = cc in rw (← z) (counts_total appid table (entries major minor body))
+    go (Some r) e = let z : ◌≡◌ {A = ℕ} 0 1 = cc in absurd (omega arith)

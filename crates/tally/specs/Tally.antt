@@ -1,6 +1,5 @@
 -- The tally (document 01, after the decision).
-use Rattle.std.specs.Prelude.{List, ℕ, ◌+◌, length, eqb}
-use Rattle.std.proofs.Math.Option.{Option, none, some}
+use Rattle.std.specs.Prelude.{List, ℕ, ◌+◌, length, eqb, Option, None, Some}
 use Rattle.ascii.specs.Ascii.{Bytes, filter_by}
 use Rattle.refusals.specs.declared.Refusal.{Refusal}
 use Rattle.trusted_list.specs.TrustedList.{entries}
@@ -11,11 +10,11 @@ use Rattle.cleaning.specs.Clean.{clean_refusal}
 
 -- 1 to 4 a cause, 0 kept
 abbrev pub cause_number : Option Cause → ℕ
-cause_number none = 0
-cause_number (some TooLong) = 1
-cause_number (some OtherScheme) = 2
-cause_number (some NotFacet) = 3
-cause_number (some OtherLabel) = 4
+cause_number None = 0
+cause_number (Some TooLong) = 1
+cause_number (Some OtherScheme) = 2
+cause_number (Some NotFacet) = 3
+cause_number (Some OtherLabel) = 4
 
 -- kept entries and each of the four causes
 pub record Counts : Type 0 where
@@ -45,8 +44,8 @@ pub data Tally : Type 0 where
   tallied : Counts → Tally
 
 unfoldable pub or_tally : Option Refusal → Counts → Tally
-or_tally none c = tallied c
-or_tally (some r) c = not_tallied r
+or_tally None c = tallied c
+or_tally (Some r) c = not_tallied r
 
 -- refused as cleaning is, but for refusal 15
 unfoldable pub tally : Bytes → ℕ → ℕ → Bytes → Bytes → Tally

@@ -1,17 +1,15 @@
 // The tally: how many entries are kept, and how many are discarded for each cause.
 #![tactic(auto)]
 
-ghost use Rattle.std.specs.Prelude.{◌≡◌, ◌≤◌, length};
-ghost use Rattle.std.proofs.Math.Option.{some};
-ghost use Rattle.entries.specs.code.Owner.{Owned, cause_of};
-ghost use Rattle.entries.specs.code.Reading.{IdsThere, entries_at};
+ghost use Rattle.std.specs.Prelude.{◌≡◌};
+ghost use Rattle.entries.specs.code.Selecting.{listed};
 ghost use Rattle.tally.specs.Tally.{counts, tally};
 ghost use Rattle.tally.specs.code.Meaning.{counts_of, tally_of, one, plus, Under};
 
-use cleaning::Ready;
-use entries::{Cause, Owner, Verdict};
-use json_text::{Decoded, Next};
+use entries::{Cause, Selected};
+use json_text::Decoded;
 use refusals::Refusal;
+use trusted_list::Version;
 
 // Kept entries and each of the four causes.
 #[derive(Clone, Copy)]
@@ -23,57 +21,38 @@ pub struct Counts {
     pub label: u32,
 }
 
-#[derive(Clone, Copy)]
-pub enum Tallied {
-    Refused(Refusal),
-    Counted(Counts),
-}
-
-// One more that is discarded for a cause.
-fn add_discarded(c: Counts, x: Cause) -> Counts
+// One entry more: kept, or discarded for a cause.
+fn add(c: Counts, cause: Option<Cause>) -> Counts
     requires { Under 65536 c }
-    ensures { counts_of result ≡ plus (counts_of c) (one (some x)) }
+    ensures { counts_of result ≡ plus (counts_of c) (one cause) }
 {
-    let mut r = c;
-    match x {
-        Cause::TooLong => {
-            r.long += 1;
-            return r;
-        }
-        Cause::OtherScheme => {
-            r.scheme += 1;
-            return r;
-        }
-        Cause::NotFacet => {
-            r.facet += 1;
-            return r;
-        }
-        Cause::OtherLabel => {
-            r.label += 1;
-            return r;
-        }
+    match cause {
+        None => Counts {
+            kept: c.kept + 1,
+            ..c
+        },
+        Some(Cause::TooLong) => Counts {
+            long: c.long + 1,
+            ..c
+        },
+        Some(Cause::OtherScheme) => Counts {
+            scheme: c.scheme + 1,
+            ..c
+        },
+        Some(Cause::NotFacet) => Counts {
+            facet: c.facet + 1,
+            ..c
+        },
+        Some(Cause::OtherLabel) => Counts {
+            label: c.label + 1,
+            ..c
+        },
     }
 }
 
-// One entry more.
-fn add(c: Counts, v: Verdict) -> Counts
-    requires { Under 65536 c }
-    ensures { counts_of result ≡ plus (counts_of c) (one (cause_of v)) }
-{
-    match v {
-        Verdict::Kept => {
-            let mut r = c;
-            r.kept += 1;
-            r
-        }
-        Verdict::Discarded(x) => add_discarded(c, x),
-    }
-}
-
-// The entries of the ids at a place, one by one, for the AppID with this owner.
-fn count_ids(appid: &[u8], owner: Owner, body: &[u8], ids: usize, table: &[u8]) -> Counts
-    requires { Owned appid.now table.now owner × IdsThere body.now ids × (length body.now ≤ 65536) }
-    ensures { counts_of result ≡ counts appid.now table.now (entries_at body.now ids) }
+// The entries of the list, one by one.
+fn count_ids(list: &Selected) -> Counts
+    ensures { counts_of result ≡ counts list.now.appid.now list.now.table.now (listed list.now) }
 {
     let mut d = Decoded {
         bytes: [0u8; 512],
@@ -86,28 +65,21 @@ fn count_ids(appid: &[u8], owner: Owner, body: &[u8], ids: usize, table: &[u8]) 
         facet: 0,
         label: 0,
     };
-    let mut at = trusted_list::first_entry(body, ids);
-    loop {
-        let Next::At(i) = at else {
-            return c;
-        };
-        let e = entries::read_entry(&mut d.bytes, body, i, appid, owner, table);
-        d.len = e.len;
-        at = e.next;
-        let verdict = e.verdict;
-        c = add(c, verdict);
+    let mut at = list.first();
+    // entry after entry: an iterator would have to copy what is held of each
+    while let Some(i) = at {
+        let entry = list.read(&mut d.bytes, i);
+        d.len = entry.len;
+        at = entry.next;
+        c = add(c, entry.cause);
     }
+    c
 }
 
 // Refusals as of cleaning, but for 15; or the counts.
-pub fn tally(appid: &[u8], major: u16, minor: u16, body: &[u8], table: &[u8]) -> Tallied
-    ensures { tally_of result ≡ tally appid.now major minor body.now table.now }
+pub fn tally(appid: &[u8], wanted: Version, body: &[u8], table: &[u8]) -> Result<Counts, Refusal>
+    ensures { tally_of result ≡ tally appid.now wanted.major wanted.minor body.now table.now }
 {
-    match cleaning::prepare(appid, major, minor, body, table) {
-        Ready::Refused(x) => Tallied::Refused(x),
-        Ready::Listed(owner, ids) => {
-            let c = count_ids(appid, owner, body, ids, table);
-            Tallied::Counted(c)
-        }
-    }
+    let list = cleaning::prepare(appid, wanted, body, table)?;
+    Ok(count_ids(&list))
 }

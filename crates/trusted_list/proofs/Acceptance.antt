@@ -1,10 +1,9 @@
 -- "A body is accepted when none of refusals 9 to 12 fits it" (document 01, "The list"): it is short enough, and something is selected.
 -- Assumes nothing.
-use Rattle.std.specs.Prelude.{if◌then◌else◌}
+use Rattle.std.specs.Prelude.{if◌then◌else◌, Option, None, Some}
 use mathlib.Core.Path.{◌≡◌, refl}
 use mathlib.Core.List.{List, ◌∷◌}
 use mathlib.Core.Bool.{Bool, true, false, ◌&&◌, not}
-use mathlib.Core.Option.{Option, none, some}
 use Prim.Native.Nat.{ℕ, ◌≤◌}
 use native.Mathlib.Omega.{arith}
 use lib.ListN.{length}
@@ -60,16 +59,16 @@ select_small major minor (item v vs) =
     go x (listings vs) (holds _ _ x (listing_small v) e) (select_small major minor vs)
   where
     pick : (x : Listing) (p q : Bool) → eqb x.version.major major ≡ p → eqb x.version.minor minor ≡ q → Small x.version.major x.version.minor
-        → (o : Option (List Bytes)) → Holds (λ ids. Small major minor) o → Holds (λ ids. Small major minor) (if p && q then some x.ids else o)
+        → (o : Option (List Bytes)) → Holds (λ ids. Small major minor) o → Holds (λ ids. Small major minor) (if p && q then Some x.ids else o)
     pick x true true e f k o h = rw (← eqb-true x.version.major major e, ← eqb-true x.version.minor minor f) k
     pick x true false e f k o h = h
     pick x false q e f k o h = h
 
     go : (x : Listing) (o : Option (List Listing)) → Small x.version.major x.version.minor
         → Holds (λ (xs : List Listing). Holds (λ ids. Small major minor) (select major minor xs)) o
-        → Holds (λ (xs : List Listing). Holds (λ ids. Small major minor) (select major minor xs)) (o >>= λ xs. some (x ∷ xs))
-    go x none k h = tt
-    go x (some xs) k h = pick x (eqb x.version.major major) (eqb x.version.minor minor) refl refl k (select major minor xs) h
+        → Holds (λ (xs : List Listing). Holds (λ ids. Small major minor) (select major minor xs)) (o >>= λ xs. Some (x ∷ xs))
+    go x None k h = tt
+    go x (Some xs) k h = pick x (eqb x.version.major major) (eqb x.version.minor minor) refl refl k (select major minor xs) h
 
 list_small : (major minor : ℕ) (v : Json) → Holds (λ (xs : List Listing). Holds (λ ids. Small major minor) (select major minor xs)) (read_list v)
 unfolding read_list read_listings
@@ -81,7 +80,7 @@ list_small major minor v =
     select_small major minor vs
 
 -- where something is selected, major and minor are at most 65535
-pub selected_small : (major minor : ℕ) (body : Bytes) (ids : List Bytes) → selected major minor body ≡ some ids → Small major minor
+pub selected_small : (major minor : ℕ) (body : Bytes) (ids : List Bytes) → selected major minor body ≡ Some ids → Small major minor
 unfolding selected read_body
 selected_small major minor body ids e =
     let C = chained (read_json body >>= read_list) (select major minor) ids e in
@@ -93,20 +92,20 @@ selected_small major minor body ids e =
 pub record Selects (major minor : ℕ) (body : Bytes) : Type 0 where
   pub short : length body ≤ 65536
   pub ids : List Bytes
-  pub is : selected major minor body ≡ some ids
+  pub is : selected major minor body ≡ Some ids
 
 pub accepted_selects : (major minor : ℕ) (body : Bytes) → Accepted major minor body → Selects major minor body
 unfolding list_refusal
 accepted_selects major minor body e = go (ltb 65536 (length body)) refl (is_none (read_json body)) (is_none (read_body body)) (selected major minor body) refl e
   where
     go : (t : Bool) → ltb 65536 (length body) ≡ t → (u v : Bool) (o : Option (List Bytes)) → selected major minor body ≡ o
-        → (if t then some LongList else if u then some Unreadable else if v then some Misshapen else if is_none o then some NoVersion else none) ≡ none
+        → (if t then Some LongList else if u then Some Unreadable else if v then Some Misshapen else if is_none o then Some NoVersion else None) ≡ None
         → Selects major minor body
     go true p u v o q r = let z : ◌≡◌ {A = ℕ} 0 1 = cc in absurd (omega arith)
     go false p true v o q r = let z : ◌≡◌ {A = ℕ} 0 1 = cc in absurd (omega arith)
     go false p false true o q r = let z : ◌≡◌ {A = ℕ} 0 1 = cc in absurd (omega arith)
-    go false p false false none q r = let z : ◌≡◌ {A = ℕ} 0 1 = cc in absurd (omega arith)
-    go false p false false (some ids) q r = record { short = omega (arith, leb-false 65537 (length body) p); ids = ids; is = q }
+    go false p false false None q r = let z : ◌≡◌ {A = ℕ} 0 1 = cc in absurd (omega arith)
+    go false p false false (Some ids) q r = record { short = omega (arith, leb-false 65537 (length body) p); ids = ids; is = q }
 
 pub selects_accepted : (major minor : ℕ) (body : Bytes) → Selects major minor body → Accepted major minor body
 unfolding list_refusal selected read_body

@@ -1,10 +1,9 @@
 -- The shortest text of a list: no body from which a version and its ids are read is shorter than the text that cleaning writes for them.
 -- Assumes nothing.
-use Rattle.std.specs.Prelude.{if◌then◌else◌}
+use Rattle.std.specs.Prelude.{if◌then◌else◌, Option, None, Some}
 use mathlib.Core.Path.{◌≡◌, refl, ap}
 use mathlib.Core.List.{List, [], ◌∷◌}
 use mathlib.Core.Bool.{Bool, true, false, ◌&&◌, not}
-use mathlib.Core.Option.{Option, none, some}
 use Prim.Native.Nat.{ℕ, ◌+◌, ◌≤◌, max}
 use native.Mathlib.Omega.{arith}
 use lib.ListN.{length}
@@ -47,19 +46,19 @@ two_names a b d (member n v ms) = go (same n a) (same n b) refl refl (two_names 
     go false true e f h = omega (arith, ap length (same_eq n b f))
     go false false e f h = omega arith
 
-only_total : (a : Bytes) (vs : List Json) (v : Json) → only vs ≡ some v → total a vs ≡ length a + 4 + size v
+only_total : (a : Bytes) (vs : List Json) (v : Json) → only vs ≡ Some v → total a vs ≡ length a + 4 + size v
 unfolding total
 only_total a [] v e = let z : ◌≡◌ {A = ℕ} 0 1 = cc in absurd (omega arith)
 only_total a (w ∷ []) v e = let q : w ≡ v = cc in rw q (omega arith)
 only_total a (w ∷ x ∷ vs) v e = let z : ◌≡◌ {A = ℕ} 0 1 = cc in absurd (omega arith)
 
-once_total : (a : Bytes) (ms : Members) (v : Json) → once a ms ≡ some v → total a (values_of a ms) ≡ length a + 4 + size v
+once_total : (a : Bytes) (ms : Members) (v : Json) → once a ms ≡ Some v → total a (values_of a ms) ≡ length a + 4 + size v
 unfolding once
 once_total a ms v e = only_total a (values_of a ms) v e
 
 -- ---- values of one kind
 
-object_is : (v : Json) (ms : Members) → as_object v ≡ some ms → size v ≡ 1 + max 1 (members_size ms)
+object_is : (v : Json) (ms : Members) → as_object v ≡ Some ms → size v ≡ 1 + max 1 (members_size ms)
 unfolding size
 object_is literal ms e = let z : ◌≡◌ {A = ℕ} 0 1 = cc in absurd (omega arith)
 object_is (number x) ms e = let z : ◌≡◌ {A = ℕ} 0 1 = cc in absurd (omega arith)
@@ -67,7 +66,7 @@ object_is (string x) ms e = let z : ◌≡◌ {A = ℕ} 0 1 = cc in absurd (omeg
 object_is (array x) ms e = let z : ◌≡◌ {A = ℕ} 0 1 = cc in absurd (omega arith)
 object_is (object x) ms e = let q : x ≡ ms = cc in rw q
 
-array_is : (v : Json) (vs : Jsons) → as_array v ≡ some vs → size v ≡ 1 + max 1 (items_size vs)
+array_is : (v : Json) (vs : Jsons) → as_array v ≡ Some vs → size v ≡ 1 + max 1 (items_size vs)
 unfolding size
 array_is literal vs e = let z : ◌≡◌ {A = ℕ} 0 1 = cc in absurd (omega arith)
 array_is (number x) vs e = let z : ◌≡◌ {A = ℕ} 0 1 = cc in absurd (omega arith)
@@ -75,7 +74,7 @@ array_is (string x) vs e = let z : ◌≡◌ {A = ℕ} 0 1 = cc in absurd (omega
 array_is (array x) vs e = let q : x ≡ vs = cc in rw q
 array_is (object x) vs e = let z : ◌≡◌ {A = ℕ} 0 1 = cc in absurd (omega arith)
 
-string_is : (v : Json) (x : Bytes) → as_string v ≡ some x → size v ≡ length x + 2
+string_is : (v : Json) (x : Bytes) → as_string v ≡ Some x → size v ≡ length x + 2
 unfolding size
 string_is literal x e = let z : ◌≡◌ {A = ℕ} 0 1 = cc in absurd (omega arith)
 string_is (number y) x e = let z : ◌≡◌ {A = ℕ} 0 1 = cc in absurd (omega arith)
@@ -83,7 +82,7 @@ string_is (string y) x e = let q : y ≡ x = cc in rw q
 string_is (array y) x e = let z : ◌≡◌ {A = ℕ} 0 1 = cc in absurd (omega arith)
 string_is (object y) x e = let z : ◌≡◌ {A = ℕ} 0 1 = cc in absurd (omega arith)
 
-number_is : (v : Json) (x : Bytes) → as_number v ≡ some x → size v ≡ max 1 (length x)
+number_is : (v : Json) (x : Bytes) → as_number v ≡ Some x → size v ≡ max 1 (length x)
 unfolding size
 number_is literal x e = let z : ◌≡◌ {A = ℕ} 0 1 = cc in absurd (omega arith)
 number_is (number y) x e = let q : y ≡ x = cc in rw q
@@ -153,17 +152,17 @@ strings_fit (item v vs) =
     go x (strings vs) (string_is v x e) (strings_fit vs)
   where
     go : (x : Bytes) (o : Option (List Bytes)) → size v ≡ length x + 2 → Holds (λ xs. strings_size xs ≡ items_size vs) o
-        → Holds (λ xs. strings_size xs ≡ size v + 1 + items_size vs) (o >>= λ xs. some (x ∷ xs))
-    go x none k h = tt
-    go x (some xs) k h = omega arith
+        → Holds (λ xs. strings_size xs ≡ size v + 1 + items_size vs) (o >>= λ xs. Some (x ∷ xs))
+    go x None k h = tt
+    go x (Some xs) k h = omega arith
 
 ids_fit : (v : Json) → Holds (λ xs. ids_size xs ≡ size v) (read_ids v)
 unfolding read_ids ids_size
 ids_fit v = and_then (λ xs. ids_size xs ≡ size v) (as_array v) _ λ vs e. go vs (strings vs) (array_is v vs e) (strings_fit vs)
   where
     go : (vs : Jsons) (o : Option (List Bytes)) → size v ≡ 1 + max 1 (items_size vs) → Holds (λ xs. strings_size xs ≡ items_size vs) o → Holds (λ xs. ids_size xs ≡ size v) o
-    go vs none k h = tt
-    go vs (some xs) k h = rw (h, k)
+    go vs None k h = tt
+    go vs (Some xs) k h = rw (h, k)
 
 listing_fits : (v : Json) → Holds (λ x. listing_size x.version.major x.version.minor x.ids ≤ size v) (read_listing v)
 unfolding read_listing listing_size same
@@ -195,19 +194,19 @@ select_fits major minor (item v vs) =
   where
     pick : (x : Listing) (p q : Bool) → eqb x.version.major major ≡ p → eqb x.version.minor minor ≡ q → listing_size x.version.major x.version.minor x.ids ≤ size v
         → (o : Option (List Bytes)) → Holds (λ ids. listing_size major minor ids + 1 ≤ items_size vs) o
-        → Holds (λ ids. listing_size major minor ids + 1 ≤ size v + 1 + items_size vs) (if p && q then some x.ids else o)
+        → Holds (λ ids. listing_size major minor ids + 1 ≤ size v + 1 + items_size vs) (if p && q then Some x.ids else o)
     pick x true true e f k o h =
         let l : listing_size major minor x.ids ≤ size v = rw (← eqb-true x.version.major major e, ← eqb-true x.version.minor minor f) k in omega arith
-    pick x true false e f k none h = tt
-    pick x true false e f k (some ids) h = omega arith
-    pick x false q e f k none h = tt
-    pick x false q e f k (some ids) h = omega arith
+    pick x true false e f k None h = tt
+    pick x true false e f k (Some ids) h = omega arith
+    pick x false q e f k None h = tt
+    pick x false q e f k (Some ids) h = omega arith
 
     go : (x : Listing) (o : Option (List Listing)) → listing_size x.version.major x.version.minor x.ids ≤ size v
         → Holds (λ (xs : List Listing). Holds (λ ids. listing_size major minor ids + 1 ≤ items_size vs) (select major minor xs)) o
-        → Holds (λ (xs : List Listing). Holds (λ ids. listing_size major minor ids + 1 ≤ size v + 1 + items_size vs) (select major minor xs)) (o >>= λ xs. some (x ∷ xs))
-    go x none k h = tt
-    go x (some xs) k h = pick x (eqb x.version.major major) (eqb x.version.minor minor) refl refl k (select major minor xs) h
+        → Holds (λ (xs : List Listing). Holds (λ ids. listing_size major minor ids + 1 ≤ size v + 1 + items_size vs) (select major minor xs)) (o >>= λ xs. Some (x ∷ xs))
+    go x None k h = tt
+    go x (Some xs) k h = pick x (eqb x.version.major major) (eqb x.version.minor minor) refl refl k (select major minor xs) h
 
 -- of a whole list
 list_fits : (major minor : ℕ) (v : Json) → Holds (λ (xs : List Listing). Holds (λ ids. list_size major minor ids ≤ size v) (select major minor xs)) (read_list v)
@@ -221,17 +220,17 @@ list_fits major minor v =
   where
     pick : (ms : Members) (w : Json) (vs : Jsons) → size v ≡ 1 + max 1 (members_size ms) → total (text "trustedFacets") (values_of (text "trustedFacets") ms) ≡ 17 + size w → size w ≡ 1 + max 1 (items_size vs)
         → (o : Option (List Bytes)) → Holds (λ ids. listing_size major minor ids + 1 ≤ items_size vs) o → Holds (λ ids. list_size major minor ids ≤ size v) o
-    pick ms w vs e f g none h = tt
-    pick ms w vs e f g (some ids) h = omega (arith, one_name (text "trustedFacets") ms)
+    pick ms w vs e f g None h = tt
+    pick ms w vs e f g (Some ids) h = omega (arith, one_name (text "trustedFacets") ms)
 
     go : (ms : Members) (w : Json) (vs : Jsons) → size v ≡ 1 + max 1 (members_size ms) → total (text "trustedFacets") (values_of (text "trustedFacets") ms) ≡ 17 + size w → size w ≡ 1 + max 1 (items_size vs)
         → (o : Option (List Listing)) → Holds (λ (xs : List Listing). Holds (λ ids. listing_size major minor ids + 1 ≤ items_size vs) (select major minor xs)) o
         → Holds (λ (xs : List Listing). Holds (λ ids. list_size major minor ids ≤ size v) (select major minor xs)) o
-    go ms w vs e f g none h = tt
-    go ms w vs e f g (some xs) h = pick ms w vs e f g (select major minor xs) h
+    go ms w vs e f g None h = tt
+    go ms w vs e f g (Some xs) h = pick ms w vs e f g (select major minor xs) h
 
 -- the list of the wanted version and the selected ids, written in the shortest way, is no longer than the body
-pub selected_fits : (major minor : ℕ) (body : Bytes) (ids : List Bytes) → selected major minor body ≡ some ids → list_size major minor ids ≤ length body
+pub selected_fits : (major minor : ℕ) (body : Bytes) (ids : List Bytes) → selected major minor body ≡ Some ids → list_size major minor ids ≤ length body
 unfolding selected read_body
 selected_fits major minor body ids e =
     let C = chained (read_json body >>= read_list) (select major minor) ids e in

@@ -1,48 +1,42 @@
 -- The ways through a member, and through the members of one or two names.
-use Rattle.std.specs.Prelude.{if◌then◌else◌}
+use Rattle.std.specs.Prelude.{if◌then◌else◌, None, Some, Option}
 use mathlib.Core.Path.{◌≡◌, refl, sym, ap, ap₂, ◌∙◌}
 use mathlib.Core.Bool.{Bool, true, false}
 use mathlib.Core.List.{List, [], ◌∷◌, ◌++◌, append-nil}
-use mathlib.Core.Option.{none, some}
 use Prim.Native.Nat.{ℕ, ◌+◌, ◌≤◌}
 use native.Mathlib.Omega.{arith}
 use lib.Dec.{leb}
 use lib.ListN.{length}
 use borrow.Author.Tests.{leb-false}
-use Rattle.ascii.specs.Ascii.{Bytes, same, text}
+use Rattle.ascii.specs.Ascii.{Bytes, among, same, text}
 use Rattle.ascii.proofs.Compare.{same_eq}
 use Rattle.json_text.specs.Reader.{Read, got, bad, Reader, ◌>>=◌, one_of, mapped}
 use Rattle.json_text.specs.Lexical.{ws, read_string}
 use Rattle.json_text.specs.code.Places.{Peeked, read_at, place_of, fit, content_of, is_text}
-use Rattle.json_text.specs.declared.Next.{Next}
-use Rattle.json_text.specs.declared.Next.TheVariants.{At, Bad}
-use Rattle.json_text.proofs.Steps.{on, then_bad, one_yes, one_no, give_at, giving_at, found, missed, is_one, not_one}
+use Rattle.json_text.proofs.Steps.{wide, on, then_bad, one_yes, one_no, give_at, giving_at, found, missed, is_one}
 use Rattle.json_values.specs.Json.{Json, to_members, read_member, read_value}
 use Rattle.trusted_list.specs.TrustedList.{values_of}
-use Rattle.trusted_list.specs.code.Slots.{Relates, Extends, Came, Once, never, one, again, Name, Names, slot_read, two_read, member_name, fill}
+use Rattle.trusted_list.specs.code.Slots.{Relates, Extends, Came, Once, never, one, again, Name, Names, reading, member_name, fill}
 use Rattle.trusted_list.specs.declared.Slot.{Slot}
 use Rattle.trusted_list.specs.declared.Slot.TheVariants.{Absent, Held, Other, Spoiled}
 use Rattle.trusted_list.specs.declared.Two.{Two}
-use Rattle.trusted_list.specs.declared.Found.{Found}
-use Rattle.trusted_list.specs.declared.Found.TheVariants.{Wrong, Value}
-use Rattle.trusted_list.specs.declared.Walked.TheVariants.{Stuck, Through}
-use Rattle.trusted_list.proofs.Walks.{slot_has, slot_not, is_two, no_two}
+use Rattle.trusted_list.proofs.Walks.{was_read, not_read, is_read, no_read}
 
 -- ---- the name
 
-module _ (s : Bytes) (i : ℕ) {q : Next} (e : q ≡ place_of (read_at read_string s i)) where
-  pub name_bad : q ≡ Bad → Bad ≡ place_of (read_at member_name s i)
+module _ (s : Bytes) (i : ℕ) {q : Option ℕ} (e : q ≡ place_of (read_at read_string s i)) where
+  pub name_bad : q ≡ None → None ≡ place_of (read_at member_name s i)
   unfolding member_name place_of
   name_bad h = rw (then_bad _ _ _ _ (missed _ e h))
 
-  module _ {j k b : ℕ} (h : q ≡ At j) (f : read_at ws s j ≡ got tt k) (g : Peeked s k b) where
-    pub name_other : (b ≡ 58 → ⊥) → Bad ≡ place_of (read_at member_name s i)
+  module _ {j k : ℕ} {b : Option ℕ} (h : q ≡ Some j) (f : read_at ws s j ≡ got tt k) (g : Peeked s k b) where
+    pub name_other : among (58 ∷ []) (wide b) ≡ false → None ≡ place_of (read_at member_name s i)
     unfolding member_name place_of
-    name_other n = rw (on _ _ _ _ (found _ e h).1, on _ _ _ _ f, then_bad _ _ _ _ (one_no g _ (not_one b 58 n)))
+    name_other n = rw (on _ _ _ _ (found _ e h).1, on _ _ _ _ f, then_bad _ _ _ _ (one_no g _ n))
 
-    pub name_on : {m : ℕ} → b ≡ 58 → read_at ws s (k + 1) ≡ got tt m → At m ≡ place_of (read_at member_name s i)
+    pub name_on : {m : ℕ} → wide b ≡ 58 → read_at ws s (k + 1) ≡ got tt m → Some m ≡ place_of (read_at member_name s i)
     unfolding member_name place_of
-    name_on n u = rw (on _ _ _ _ (found _ e h).1, on _ _ _ _ f, on _ _ _ _ (one_yes g _ (is_one b 58 n)), on _ _ _ _ u, give_at)
+    name_on n u = rw (on _ _ _ _ (found _ e h).1, on _ _ _ _ f, on _ _ _ _ (one_yes g _ (is_one (wide b) 58 n)), on _ _ _ _ u, give_at)
 
 -- ---- one reader after another, taken apart
 
@@ -107,7 +101,7 @@ same_fits : (n name : Bytes) → length name ≤ 512 → is_text (fit n) name �
 unfolding fit is_text
 same_fits n name l = go (leb (length n) 512) refl (same n name) refl
   where
-    go : (u : Bool) → leb (length n) 512 ≡ u → (v : Bool) → same n name ≡ v → is_text (if u then some n else none) name ≡ same n name
+    go : (u : Bool) → leb (length n) 512 ≡ u → (v : Bool) → same n name ≡ v → is_text (if u then Some n else None) name ≡ same n name
     go true e v f = refl
     go false e false f = sym f
     go false e true f = absurd (omega (arith, leb-false (length n) 512 e, ap length (same_eq n name f)))
@@ -160,20 +154,20 @@ pub record Apart (a b : Bytes) : Type 0 where
   pub first_short : Short a
   pub second_short : Short b
 
-without : (s : Bytes) (at d : ℕ) {q : Next} {k : ℕ} → q ≡ place_of (read_at member_name s at) → q ≡ At k → read_at (read_value d) s k ≡ bad → read_at (read_member (read_value d)) s at ≡ bad
+without : (s : Bytes) (at d : ℕ) {q : Option ℕ} {k : ℕ} → q ≡ place_of (read_at member_name s at) → q ≡ Some k → read_at (read_value d) s k ≡ bad → read_at (read_member (read_value d)) s at ≡ bad
 unfolding mapped
 without s at d e h z = let f = found _ e h in (named f.1).to_value (read_value d) ∙ rw z
 
-module _ (s : Bytes) (at d : ℕ) {R : List (Bytes × Json) → Two → Type 0} {x : Two} {q : Next} (e : q ≡ place_of (read_at member_name s at)) where
-  pub member_stuck : q ≡ Bad → Relates (Extends R x) (read_at (read_member (read_value d)) s at) (two_read Stuck)
-  member_stuck h = no_two (unnamed (read_value d) s at (missed _ e h))
+module _ (s : Bytes) (at d : ℕ) {R : List (Bytes × Json) → Two → Type 0} {x : Two} {q : Option ℕ} (e : q ≡ place_of (read_at member_name s at)) where
+  pub member_stuck : q ≡ None → Relates (Extends R x) (read_at (read_member (read_value d)) s at) (reading None)
+  member_stuck h = no_read (unnamed (read_value d) s at (missed _ e h))
 
-  module _ {k : ℕ} (h : q ≡ At k) where
-    pub value_stuck : {P : Json → Slot → Type 0} {w : Found} → Relates P (read_at (read_value d) s k) (slot_read w) → w ≡ Wrong → Relates (Extends R x) (read_at (read_member (read_value d)) s at) (two_read Stuck)
-    value_stuck E n = no_two (without s at d e h (slot_not E n))
+  module _ {k : ℕ} (h : q ≡ Some k) where
+    pub value_stuck : {P : Json → Slot → Type 0} {w : Option (ℕ × Slot)} → Relates P (read_at (read_value d) s k) (reading w) → w ≡ None → Relates (Extends R x) (read_at (read_member (read_value d)) s at) (reading None)
+    value_stuck E n = no_read (without s at d e h (not_read E n))
 
-    pub skip_stuck : {w : Next} → w ≡ place_of (read_at (read_value d) s k) → w ≡ Bad → Relates (Extends R x) (read_at (read_member (read_value d)) s at) (two_read Stuck)
-    skip_stuck E n = no_two (without s at d e h (missed _ E n))
+    pub skip_stuck : {w : Option ℕ} → w ≡ place_of (read_at (read_value d) s k) → w ≡ None → Relates (Extends R x) (read_at (read_member (read_value d)) s at) (reading None)
+    skip_stuck E n = no_read (without s at d e h (missed _ E n))
 
 -- the member at a place: its name, its value, and the place behind
 record MemberAt (s : Bytes) (at d : ℕ) (v : Json) (j : ℕ) : Type 0 where
@@ -182,23 +176,23 @@ record MemberAt (s : Bytes) (at d : ℕ) (v : Json) (j : ℕ) : Type 0 where
   is_name : Named s at name before
   reads : read_at (read_member (read_value d)) s at ≡ got (name, v) j
 
-member_at : (s : Bytes) (at d : ℕ) {q : Next} {k : ℕ} → q ≡ place_of (read_at member_name s at) → q ≡ At k → {v : Json} {j : ℕ} → read_at (read_value d) s k ≡ got v j → MemberAt s at d v j
+member_at : (s : Bytes) (at d : ℕ) {q : Option ℕ} {k : ℕ} → q ≡ place_of (read_at member_name s at) → q ≡ Some k → {v : Json} {j : ℕ} → read_at (read_value d) s k ≡ got v j → MemberAt s at d v j
 unfolding mapped
 member_at s at d {k} e h r =
     let f = found _ e h in
     record { name = f.0; before = k; is_name = named f.1; reads = (named f.1).to_value (read_value d) ∙ rw r }
 
-module _ (s : Bytes) (at d : ℕ) {x : Two} {q : Next} (e : q ≡ place_of (read_at member_name s at)) {k : ℕ} (h : q ≡ At k) where
+module _ (s : Bytes) (at d : ℕ) {x : Two} {q : Option ℕ} (e : q ≡ place_of (read_at member_name s at)) {k : ℕ} (h : q ≡ Some k) where
   -- two names
   module _ (a b : Bytes) (A : Apart a b) (P Q : Json → Slot → Type 0) {t : Bool} (c : t ≡ is_text (content_of (read_at read_string s at)) a) where
-    pub first_filled : {w : Found} {j : ℕ} {y r : Slot} → t ≡ true → Relates (Came P) (read_at (read_value d) s k) (slot_read w) → w ≡ Value j y → r ≡ fill x.first y
-        → Relates (Extends (Names a b P Q) x) (read_at (read_member (read_value d)) s at) (two_read (Through j (record { first = r; second = x.second })))
+    pub first_filled : {w : Option (ℕ × Slot)} {j : ℕ} {y r : Slot} → t ≡ true → Relates (Came P) (read_at (read_value d) s k) (reading w) → w ≡ Some (j, y) → r ≡ fill x.first y
+        → Relates (Extends (Names a b P Q) x) (read_at (read_member (read_value d)) s at) (reading (Some (j, (record { first = r; second = x.second }))))
     first_filled {j} {y} {r} f E g m =
-        let H = slot_has E g in
+        let H = was_read E g in
         let M = member_at s at d e h H.read in
         let u : same M.name a ≡ true = sym (is_named a M.is_name A.first_short c) ∙ f in
         let v : same M.name b ≡ false = ap (λ (n : Bytes). same n b) (same_eq M.name a u) ∙ A.differ in
-        is_two (record {
+        is_read (record {
           value = (M.name, H.value);
           read = M.reads;
           is = record {
@@ -210,14 +204,14 @@ module _ (s : Bytes) (at d : ℕ) {x : Two} {q : Next} (e : q ≡ place_of (read
         })
 
     module _ {o : Bool} (f : t ≡ false) (l : o ≡ is_text (content_of (read_at read_string s at)) b) where
-      pub second_filled : {w : Found} {j : ℕ} {y r : Slot} → o ≡ true → Relates (Came Q) (read_at (read_value d) s k) (slot_read w) → w ≡ Value j y → r ≡ fill x.second y
-          → Relates (Extends (Names a b P Q) x) (read_at (read_member (read_value d)) s at) (two_read (Through j (record { first = x.first; second = r })))
+      pub second_filled : {w : Option (ℕ × Slot)} {j : ℕ} {y r : Slot} → o ≡ true → Relates (Came Q) (read_at (read_value d) s k) (reading w) → w ≡ Some (j, y) → r ≡ fill x.second y
+          → Relates (Extends (Names a b P Q) x) (read_at (read_member (read_value d)) s at) (reading (Some (j, (record { first = x.first; second = r }))))
       second_filled {j} {y} {r} i E g m =
-          let H = slot_has E g in
+          let H = was_read E g in
           let M = member_at s at d e h H.read in
           let u : same M.name a ≡ false = sym (is_named a M.is_name A.first_short c) ∙ f in
           let v : same M.name b ≡ true = sym (is_named b M.is_name A.second_short l) ∙ i in
-          is_two (record {
+          is_read (record {
             value = (M.name, H.value);
             read = M.reads;
             is = record {
@@ -228,14 +222,14 @@ module _ (s : Bytes) (at d : ℕ) {x : Two} {q : Next} (e : q ≡ place_of (read
             };
           })
 
-      pub both_kept : {w : Next} {j : ℕ} → o ≡ false → w ≡ place_of (read_at (read_value d) s k) → w ≡ At j
-          → Relates (Extends (Names a b P Q) x) (read_at (read_member (read_value d)) s at) (two_read (Through j x))
+      pub both_kept : {w : Option ℕ} {j : ℕ} → o ≡ false → w ≡ place_of (read_at (read_value d) s k) → w ≡ Some j
+          → Relates (Extends (Names a b P Q) x) (read_at (read_member (read_value d)) s at) (reading (Some (j, x)))
       both_kept {w} {j} i E g =
           let F = found _ E g in
           let M = member_at s at d e h F.1 in
           let u : same M.name a ≡ false = sym (is_named a M.is_name A.first_short c) ∙ f in
           let v : same M.name b ≡ false = sym (is_named b M.is_name A.second_short l) ∙ i in
-          is_two (record {
+          is_read (record {
             value = (M.name, F.0);
             read = M.reads;
             is = record {
@@ -248,18 +242,18 @@ module _ (s : Bytes) (at d : ℕ) {x : Two} {q : Next} (e : q ≡ place_of (read
 
   -- one name
   module _ (a : Bytes) (A : Short a) (P : Json → Slot → Type 0) {t : Bool} (c : t ≡ is_text (content_of (read_at read_string s at)) a) where
-    pub one_filled : {w : Found} {j : ℕ} {y r : Slot} → t ≡ true → Relates (Came P) (read_at (read_value d) s k) (slot_read w) → w ≡ Value j y → r ≡ fill x.first y
-        → Relates (Extends (Name a P) x) (read_at (read_member (read_value d)) s at) (two_read (Through j (record { first = r; second = x.second })))
+    pub one_filled : {w : Option (ℕ × Slot)} {j : ℕ} {y r : Slot} → t ≡ true → Relates (Came P) (read_at (read_value d) s k) (reading w) → w ≡ Some (j, y) → r ≡ fill x.first y
+        → Relates (Extends (Name a P) x) (read_at (read_member (read_value d)) s at) (reading (Some (j, (record { first = r; second = x.second }))))
     one_filled {j} {y} {r} f E g m =
-        let H = slot_has E g in
+        let H = was_read E g in
         let M = member_at s at d e h H.read in
         let u : same M.name a ≡ true = sym (is_named a M.is_name A c) ∙ f in
-        is_two (record { value = (M.name, H.value); read = M.reads; is = record { is = λ done N. record { is = rw m (once_more a done M.name H.value N.is u H.is) } } })
+        is_read (record { value = (M.name, H.value); read = M.reads; is = record { is = λ done N. record { is = rw m (once_more a done M.name H.value N.is u H.is) } } })
 
-    pub one_kept : {w : Next} {j : ℕ} → t ≡ false → w ≡ place_of (read_at (read_value d) s k) → w ≡ At j
-        → Relates (Extends (Name a P) x) (read_at (read_member (read_value d)) s at) (two_read (Through j x))
+    pub one_kept : {w : Option ℕ} {j : ℕ} → t ≡ false → w ≡ place_of (read_at (read_value d) s k) → w ≡ Some j
+        → Relates (Extends (Name a P) x) (read_at (read_member (read_value d)) s at) (reading (Some (j, x)))
     one_kept {w} {j} f E g =
         let F = found _ E g in
         let M = member_at s at d e h F.1 in
         let u : same M.name a ≡ false = sym (is_named a M.is_name A c) ∙ f in
-        is_two (record { value = (M.name, F.0); read = M.reads; is = record { is = λ done N. record { is = once_same a done M.name F.0 N.is u } } })
+        is_read (record { value = (M.name, F.0); read = M.reads; is = record { is = λ done N. record { is = once_same a done M.name F.0 N.is u } } })

@@ -1,23 +1,22 @@
 -- The loop over members or items, with what is held of those read so far.
+use Rattle.std.specs.Prelude.{Option, Some, None}
+use Rattle.std.specs.Option.{option_eq}
 use mathlib.Core.Path.{◌≡◌, refl, sym, ap, ◌∙◌}
+use mathlib.Core.Bool.{Bool, true, false}
 use mathlib.Core.List.{List, [], ◌∷◌, ◌++◌}
 use Prim.Native.Nat.{ℕ, suc, ◌+◌, ◌-◌, ◌≤◌, ◌<◌}
 use native.Mathlib.Omega.{arith}
+use lib.Dec.{eqb}
 use lib.ListN.{length, drop, length-drop}
 use lib.Seq.{append_snoc}
-use Rattle.ascii.specs.Ascii.{Bytes}
+use Rattle.ascii.specs.Ascii.{Bytes, among}
 use Rattle.json_text.specs.Reader.{Read, got, bad, Reader, give, one_of, ◌>>◌, if_next◌then◌else◌, mapped}
 use Rattle.json_text.specs.Lexical.{ws}
 use Rattle.json_text.specs.code.Places.{Peeked, read_at}
-use Rattle.json_text.proofs.Steps.{on, then_bad, one_yes, one_no, next_yes, next_no, give_at, counted_at, map_give, no_fall, peek_in, is_one, not_one}
+use Rattle.json_text.proofs.Steps.{wide, here, in_text, wide_some, on, then_bad, one_yes, one_no, next_yes, next_no, give_at, counted_at, map_give, no_fall, is_one, wide_is, not_this}
 use Rattle.json_values.specs.Json.{items, listed}
-use Rattle.trusted_list.specs.code.Slots.{Relates, unread, related, Extends, slot_read, two_read}
-use Rattle.trusted_list.specs.declared.Slot.{Slot}
+use Rattle.trusted_list.specs.code.Slots.{Relates, unread, related, Extends, Starts, reading}
 use Rattle.trusted_list.specs.declared.Two.{Two}
-use Rattle.trusted_list.specs.declared.Found.{Found}
-use Rattle.trusted_list.specs.declared.Found.TheVariants.{Wrong, Value}
-use Rattle.trusted_list.specs.declared.Walked.{Walked}
-use Rattle.trusted_list.specs.declared.Walked.TheVariants.{Stuck, Through}
 
 -- ---- what the text reads to, by what the code holds
 
@@ -37,41 +36,33 @@ has_not : {A B : Type 0} {R : A → B → Type 0} {r : Read A} {t : Read B} → 
 has_not unread e = refl
 has_not (related h) e = let z : ◌≡◌ {A = ℕ} 0 1 = cc in absurd (omega arith)
 
-module _ {A : Type 0} {R : A → Slot → Type 0} {r : Read A} {q : Found} (E : Relates R r (slot_read q)) where
-  pub slot_has : {j : ℕ} {x : Slot} → q ≡ Value j x → Has R r x j
-  unfolding slot_read
-  slot_has h = has E (rw h)
+module _ {A B : Type 0} {R : A → B → Type 0} {r : Read A} {q : Option (ℕ × B)} (E : Relates R r (reading q)) where
+  pub was_read : {j : ℕ} {x : B} → q ≡ Some (j, x) → Has R r x j
+  unfolding reading
+  was_read h = has E (rw h)
 
-  pub slot_not : q ≡ Wrong → r ≡ bad
-  unfolding slot_read
-  slot_not h = has_not E (rw h)
-
-module _ {A : Type 0} {R : A → Two → Type 0} {r : Read A} {q : Walked} (E : Relates R r (two_read q)) where
-  pub two_has : {j : ℕ} {x : Two} → q ≡ Through j x → Has R r x j
-  unfolding two_read
-  two_has h = has E (rw h)
-
-  pub two_not : q ≡ Stuck → r ≡ bad
-  unfolding two_read
-  two_not h = has_not E (rw h)
+  pub not_read : q ≡ None → r ≡ bad
+  unfolding reading
+  not_read h = has_not E (rw h)
 
 -- the other way
-module _ {A : Type 0} {r : Read A} where
-  pub is_slot : {R : A → Slot → Type 0} {x : Slot} {j : ℕ} → Has R r x j → Relates R r (slot_read (Value j x))
-  unfolding slot_read
-  is_slot H = rw H.read (related H.is)
+module _ {A B : Type 0} {R : A → B → Type 0} {r : Read A} where
+  pub is_read : {x : B} {j : ℕ} → Has R r x j → Relates R r (reading (Some (j, x)))
+  unfolding reading
+  is_read H = rw H.read (related H.is)
 
-  pub no_slot : {R : A → Slot → Type 0} → r ≡ bad → Relates R r (slot_read Wrong)
-  unfolding slot_read
-  no_slot e = rw e unread
+  pub no_read : r ≡ bad → Relates R r (reading None)
+  unfolding reading
+  no_read e = rw e unread
 
-  pub is_two : {R : A → Two → Type 0} {x : Two} {j : ℕ} → Has R r x j → Relates R r (two_read (Through j x))
-  unfolding two_read
-  is_two H = rw H.read (related H.is)
+-- ---- the byte at a place, compared with the closing bracket
 
-  pub no_two : {R : A → Two → Type 0} → r ≡ bad → Relates R r (two_read Stuck)
-  unfolding two_read
-  no_two e = rw e unread
+module _ {w : Bool} (q : Option ℕ) {n close : ℕ} (e : w ≡ option_eq eqb q (Some n)) where
+  pub closes : w ≡ true → n ≡ close → wide q ≡ close
+  closes h c = wide_is q n e h ∙ c
+
+  pub not_closed : w ≡ false → n ≡ close → n < 256 → among (close ∷ []) (wide q) ≡ false
+  not_closed h c l = rw (← c) (not_this q n l e h)
 
 -- ---- the loop
 
@@ -101,36 +92,36 @@ mapped_got : {A B : Type 0} (f : A → B) (a : A) (j : ℕ) → mapped f (got a 
 unfolding mapped
 mapped_got f a j = refl
 
-module _ {A : Type 0} (p : Reader A) (close : ℕ) (s : Bytes) (from : ℕ) (R : List A → Two → Type 0) {x : Two} (r : R [] x) {i b : ℕ} (e : read_at ws s from ≡ got tt i) (g : Peeked s i b) where
+module _ {A : Type 0} (p : Reader A) (close : ℕ) (s : Bytes) (from : ℕ) (R : Bytes → List A → Two → Type 0) {x : Two} (r : Starts R x) {i : ℕ} {b : Option ℕ} (e : read_at ws s from ≡ got tt i) (g : Peeked s i b) where
   -- the list is empty
-  pub walk_empty : b ≡ close → Relates R (read_at (listed p (close ∷ [])) s from) (two_read (Through (i + 1) x))
+  pub walk_empty : wide b ≡ close → Relates (R s) (read_at (listed p (close ∷ [])) s from) (reading (Some (i + 1, x)))
   unfolding listed
-  walk_empty h = is_two (record { value = []; read = rw (on _ _ _ _ e, next_yes g _ _ _ (is_one b close h), on _ _ _ _ (one_yes g _ (is_one b close h)), give_at); is = r })
+  walk_empty h = is_read (record { value = []; read = rw (on _ _ _ _ e, next_yes g _ _ _ (is_one (wide b) close h), on _ _ _ _ (one_yes g _ (is_one (wide b) close h)), give_at); is = r.is s })
 
-  pub walk_starts : (b ≡ close → ⊥) → Walk p close s R (read_at (listed p (close ∷ [])) s from) x i
+  pub walk_starts : among (close ∷ []) (wide b) ≡ false → Walk p close s (R s) (read_at (listed p (close ∷ [])) s from) x i
   unfolding listed
   walk_starts h = record {
     fuel = length (drop i s);
     enough = simp length-drop (omega arith);
     done = [];
-    held = r;
-    is = rw (mapped_nil, on _ _ _ _ e, next_no g _ _ _ (not_one b close h), counted_at);
+    held = r.is s;
+    is = rw (mapped_nil, on _ _ _ _ e, next_no g _ _ _ h, counted_at);
   }
 
 module _ {A : Type 0} {p : Reader A} {close : ℕ} {s : Bytes} {R : List A → Two → Type 0} {whole : Read (List A)} {x : Two} {at : ℕ}
-    (L : Walk p close s R whole x at) {q : Walked} (E : Relates (Extends R x) (read_at p s at) (two_read q)) where
+    (L : Walk p close s R whole x at) {q : Option (ℕ × Two)} (E : Relates (Extends R x) (read_at p s at) (reading q)) where
   -- the element is wrong
-  pub walk_bad : q ≡ Stuck → Relates R whole (two_read Stuck)
+  pub walk_bad : q ≡ None → Relates R whole (reading None)
   unfolding items
   walk_bad h =
       let z : mapped (λ rest. L.done ++ rest) (read_at (items p (close ∷ []) (suc L.fuel)) s at) ≡ bad =
-      rw (then_bad _ _ _ _ (two_not E h)) (mapped_bad (λ rest. L.done ++ rest)) in
-      no_two (sym L.is ∙ z)
+      rw (then_bad _ _ _ _ (not_read E h)) (mapped_bad (λ rest. L.done ++ rest)) in
+      no_read (sym L.is ∙ z)
 
   -- the element ends at j, the blanks behind it at k, and b stands there
-  module _ {j k b : ℕ} {y : Two} (h : q ≡ Through j y) (f : read_at ws s j ≡ got tt k) (g : Peeked s k b) where
+  module _ {j k : ℕ} {b : Option ℕ} {y : Two} (h : q ≡ Some (j, y)) (f : read_at ws s j ≡ got tt k) (g : Peeked s k b) where
     H : Has (Extends R x) (read_at p s at) y j
-    H = two_has E h
+    H = was_read E h
 
     abbrev Behind : Reader (List A)
     Behind = if_next (close ∷ []) then one_of (close ∷ []) >> give [] else one_of (44 ∷ []) >> ws >> items p (close ∷ []) L.fuel
@@ -148,35 +139,35 @@ module _ {A : Type 0} {p : Reader A} {close : ℕ} {s : Bytes} {R : List A → T
         rw (on _ _ _ _ H.read, on _ _ _ _ f, map_give Behind (λ others. H.value ∷ others) s k) in
         sym (mapped_cons L.done H.value (read_at Behind s k)) ∙ ap (mapped (λ rest. L.done ++ rest)) (sym z) ∙ L.is
 
-    pub walk_end : b ≡ close → Relates R whole (two_read (Through (k + 1) y))
+    pub walk_end : wide b ≡ close → Relates R whole (reading (Some (k + 1, y)))
     walk_end c =
-        let z : read_at Behind s k ≡ got [] (k + 1) = rw (next_yes g _ _ _ (is_one b close c), on _ _ _ _ (one_yes g _ (is_one b close c)), give_at) in
+        let z : read_at Behind s k ≡ got [] (k + 1) = rw (next_yes g _ _ _ (is_one (wide b) close c), on _ _ _ _ (one_yes g _ (is_one (wide b) close c)), give_at) in
         let w : whole ≡ got (now ++ []) (k + 1) = sym to_tail ∙ rw z (mapped_got (λ rest. now ++ rest) [] (k + 1)) in
-        is_two (record { value = now; read = w ∙ ap (λ (l : List A). got l (k + 1)) (append_nil_now now); is = held_now })
+        is_read (record { value = now; read = w ∙ ap (λ (l : List A). got l (k + 1)) (append_nil_now now); is = held_now })
       where
         append_nil_now : (l : List A) → l ++ [] ≡ l
         append_nil_now [] = refl
         append_nil_now (a ∷ l) = ap (λ (m : List A). a ∷ m) (append_nil_now l)
 
-    pub walk_other : (b ≡ close → ⊥) → (b ≡ 44 → ⊥) → Relates R whole (two_read Stuck)
+    pub walk_other : among (close ∷ []) (wide b) ≡ false → among (44 ∷ []) (wide b) ≡ false → Relates R whole (reading None)
     walk_other c d =
-        let z : read_at Behind s k ≡ bad = rw (next_no g _ _ _ (not_one b close c), then_bad _ _ _ _ (one_no g _ (not_one b 44 d))) in
-        no_two (sym to_tail ∙ rw z (mapped_bad (λ rest. now ++ rest)))
+        let z : read_at Behind s k ≡ bad = rw (next_no g _ _ _ c, then_bad _ _ _ _ (one_no g _ d)) in
+        no_read (sym to_tail ∙ rw z (mapped_bad (λ rest. now ++ rest)))
 
     -- a comma, and the blanks behind it end at i
-    pub walk_less : {i : ℕ} → b ≡ 44 → read_at ws s (k + 1) ≡ got tt i → length s - i < length s - at
+    pub walk_less : {i : ℕ} → wide b ≡ 44 → read_at ws s (k + 1) ≡ got tt i → length s - i < length s - at
     walk_less {i} d n =
         let u : at ≤ j = no_fall p s at H.read in
         let v : j ≤ k = no_fall ws s j f in
         let w : k + 1 ≤ i = no_fall ws s (k + 1) n in
-        omega (arith, peek_in s k (omega (arith, g.is)))
+        omega (arith, in_text s k (here g (wide_some b 44 (omega arith) d)))
 
-    pub walk_more : {i : ℕ} → (b ≡ close → ⊥) → b ≡ 44 → read_at ws s (k + 1) ≡ got tt i → Walk p close s R whole y i
+    pub walk_more : {i : ℕ} → among (close ∷ []) (wide b) ≡ false → wide b ≡ 44 → read_at ws s (k + 1) ≡ got tt i → Walk p close s R whole y i
     walk_more {i} c d n =
         let l : length s - i < length s - at = walk_less d n in
         let m : L.fuel ≡ suc (L.fuel - 1) = omega (arith, L.enough) in
         let z : read_at Behind s k ≡ read_at (items p (close ∷ []) L.fuel) s i =
-        rw (next_no g _ _ _ (not_one b close c), on _ _ _ _ (one_yes g _ (is_one b 44 d)), on _ _ _ _ n) in
+        rw (next_no g _ _ _ c, on _ _ _ _ (one_yes g _ (is_one (wide b) 44 d)), on _ _ _ _ n) in
         record {
           fuel = L.fuel - 1;
           enough = omega (arith, L.enough);

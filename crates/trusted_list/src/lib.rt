@@ -3,17 +3,14 @@
 // that is open around a value leaves it one level less, down to 12 for a number of `version` and a string of `ids`.
 #![tactic(auto)]
 
-ghost use Rattle.std.specs.Prelude.{◌≡◌};
-ghost use Rattle.ascii.specs.Ascii.{text};
+ghost use Rattle.std.specs.Prelude.{◌≡◌, List, [], ◌∷◌, ℕ};
+ghost use Rattle.ascii.specs.Ascii.{Bytes, text};
+ghost use Rattle.json_text.specs.Reader.{Reader};
 ghost use Rattle.json_text.specs.code.Places.{read_at, place_of};
-ghost use Rattle.json_values.specs.Json.{listed, read_member, read_value};
+ghost use Rattle.json_values.specs.Json.{Json, listed, read_member, read_value};
 ghost use Rattle.trusted_list.specs.code.Entries.{first_entry, next_entry};
-ghost use Rattle.trusted_list.specs.code.Slots.{Relates, Extends, Came, Name, Names, slot_read, two_read, member_name, fill, version_of, listing_of, earlier, NumberIs, VersionIs, IdsIs, ListingIs, ListIs, BodyIs, Strings, Listings, Answers};
+ghost use Rattle.trusted_list.specs.code.Slots.{Relates, Extends, Starts, Came, Name, Names, reading, member_name, fill, version_of, listing_of, earlier, NumberIs, VersionIs, IdsIs, ListingIs, ListIs, BodyIs, Strings, Listings, Answers};
 
-use json_text::{
-    BEGIN_ARRAY, BEGIN_OBJECT, END_ARRAY, END_OBJECT, NAME_SEPARATOR, Next, QUOTATION_MARK,
-    VALUE_SEPARATOR,
-};
 use refusals::Refusal;
 
 // What the pass holds of a value that must have a shape: it did not come; it came and is good, with a number or a
@@ -33,25 +30,11 @@ pub struct Two {
     pub second: Slot,
 }
 
-// The bytes are no JSON; or the place behind a value, and what is held of it.
+// A version: the wanted one, of which the list selects an object.
 #[derive(Clone, Copy)]
-pub enum Found {
-    Wrong,
-    Value(usize, Slot),
-}
-
-// The same for the members of an object, or the items of an array.
-#[derive(Clone, Copy)]
-pub enum Walked {
-    Stuck,
-    Through(usize, Two),
-}
-
-// The refusal; or the place of the selected ids.
-#[derive(Clone, Copy)]
-pub enum Selection {
-    Refused(Refusal),
-    Ids(usize),
+pub struct Version {
+    pub major: u16,
+    pub minor: u16,
 }
 
 // A second member of one name spoils the first.
@@ -67,107 +50,137 @@ fn fill(x: Slot, y: Slot) -> Slot
 }
 
 // The place of a member's value, behind its name and the colon.
-fn member_value(s: &[u8], from: usize) -> Next
+fn member_value(s: &[u8], from: usize) -> Option<usize>
     ensures { result ≡ place_of (read_at member_name s.now from) }
 {
-    let Next::At(i) = json_text::strings::skip_string(s, from) else {
-        return Next::Bad;
-    };
+    let i = json_text::strings::skip_string(s, from)?;
     let j = json_text::skip_blanks(s, i);
-    if json_text::byte_at(s, j) != NAME_SEPARATOR {
-        return Next::Bad;
+    if json_text::byte_at(s, j) != Some(b':') {
+        return None;
     }
     let k = json_text::skip_blanks(s, j + 1);
-    Next::At(k)
+    Some(k)
 }
 
 // A number of `version`: written as digits only, at most 65535.
-fn read_number(s: &[u8], from: usize) -> Found
-    ensures { Relates (Came NumberIs) (read_at (read_value 12) s.now from) (slot_read result) }
+fn read_number(s: &[u8], from: usize) -> Option<(usize, Slot)>
+    ensures { Relates (Came NumberIs) (read_at (read_value 12) s.now from) (reading result) }
 {
-    let Next::At(j) = json_values::skip_value(s, from, 12) else {
-        return Found::Wrong;
+    let j = json_values::skip_value(s, from, 12)?;
+    let Some(n) = ascii::decimals::read_number(&s[from..j]) else {
+        return Some((j, Slot::Spoiled));
     };
-    let n = ascii::decimals::read_number(&s[from..j]);
-    let ascii::decimals::Number::Value(k) = n else {
-        return Found::Value(j, Slot::Spoiled);
-    };
-    Found::Value(j, Slot::Held(k as usize))
+    Some((j, Slot::Held(n as usize)))
 }
 
-// ---- `version`
+// ---- what stands between two brackets
 
-fn version_member(s: &[u8], at: usize, two: Two) -> Walked
-    ensures { Relates (Extends (Names (text "major") (text "minor") NumberIs NumberIs) two) (read_at (read_member (read_value 12)) s.now at) (two_read result) }
-{
-    let Next::At(k) = member_value(s, at) else {
-        return Walked::Stuck;
-    };
-    let first = two.first;
-    let second = two.second;
-    if json_text::decoding::is_name(s, at, b"major") {
-        let Found::Value(j, y) = read_number(s, k) else {
-            return Walked::Stuck;
-        };
-        let first = fill(first, y);
-        return Walked::Through(j, Two { first, second });
-    }
-    if json_text::decoding::is_name(s, at, b"minor") {
-        let Found::Value(j, y) = read_number(s, k) else {
-            return Walked::Stuck;
-        };
-        let second = fill(second, y);
-        return Walked::Through(j, Two { first, second });
-    }
-    let Next::At(j) = json_values::skip_value(s, k, 12) else {
-        return Walked::Stuck;
-    };
-    Walked::Through(j, two)
+// One level of the body: how an element between its brackets is read, and what is held of those before it.
+trait Level {
+    ghost use Rattle.trusted_list.specs.declared.Two.{Two};
+
+    ghost Element: { Type 0 };
+
+    ghost CLOSE: { ℕ };
+
+    ghost reader: { Reader Element };
+
+    ghost holds: { Self → Bytes → List Element → Two → Type 0 };
+
+    // The closing bracket.
+    const CLOSE: u8;
+
+    // What is held before the first element.
+    fn start(&self) -> Two
+        ensures { Starts (holds self.now) result };
+
+    // The place behind the element at a place, and what is held of it and those before it.
+    fn item(&self, s: &[u8], at: usize, two: Two) -> Option<(usize, Two)>
+        ensures { Relates (Extends (holds self.now s.now) two) (read_at reader s.now at) (reading result) };
 }
 
-// What follows the opening brace of a version.
-fn version_members(s: &[u8], from: usize) -> Walked
-    ensures { Relates (Names (text "major") (text "minor") NumberIs NumberIs) (read_at (listed (read_member (read_value 12)) (text "}")) s.now from) (two_read result) }
+// What follows the opening bracket. The loop of json_values over a list is not this one: it stands in the recursion of skip_value, and holds nothing.
+fn walk<L: Level>(level: &L, s: &[u8], from: usize) -> Option<(usize, Two)>
+    ensures { Relates (L.holds level.now s.now) (read_at (listed L.reader (L.CLOSE ∷ [])) s.now from) (reading result) }
 {
     let first = json_text::skip_blanks(s, from);
-    let mut two = Two {
-        first: Slot::Absent,
-        second: Slot::Absent,
-    };
-    if json_text::byte_at(s, first) == END_OBJECT {
-        return Walked::Through(first + 1, two);
+    let mut two = level.start();
+    if json_text::byte_at(s, first) == Some(L::CLOSE) {
+        return Some((first + 1, two));
     }
     let mut at = first;
+    // element after element, each of which says where it ends
     loop {
-        let Walked::Through(j, next) = version_member(s, at, two) else {
-            return Walked::Stuck;
-        };
+        let (j, next) = level.item(s, at, two)?;
         let k = json_text::skip_blanks(s, j);
         let b = json_text::byte_at(s, k);
-        if b == END_OBJECT {
-            return Walked::Through(k + 1, next);
+        if b == Some(L::CLOSE) {
+            return Some((k + 1, next));
         }
-        if b != VALUE_SEPARATOR {
-            return Walked::Stuck;
+        if b != Some(b',') {
+            return None;
         }
         two = next;
         at = json_text::skip_blanks(s, k + 1);
     }
 }
 
+// ---- `version`
+
+// The members of a version.
+#[derive(Drop)]
+struct VersionMembers;
+
+impl Level for VersionMembers {
+    ghost Element = { Bytes × Json };
+
+    ghost CLOSE = { 125 };
+
+    ghost reader = { read_member (read_value 12) };
+
+    ghost holds = { λ l s. Names (text "major") (text "minor") NumberIs NumberIs };
+
+    const CLOSE: u8 = b'}';
+
+    fn start(&self) -> Two {
+        Two {
+            first: Slot::Absent,
+            second: Slot::Absent,
+        }
+    }
+
+    fn item(&self, s: &[u8], at: usize, two: Two) -> Option<(usize, Two)> {
+        let k = member_value(s, at)?;
+        let first = two.first;
+        let second = two.second;
+        if json_text::decoding::is_name(s, at, b"major") {
+            let (j, y) = read_number(s, k)?;
+            let first = fill(first, y);
+            return Some((j, Two { first, second }));
+        }
+        if json_text::decoding::is_name(s, at, b"minor") {
+            let (j, y) = read_number(s, k)?;
+            let second = fill(second, y);
+            return Some((j, Two { first, second }));
+        }
+        let j = json_values::skip_value(s, k, 12)?;
+        Some((j, two))
+    }
+}
+
 // The version by its two numbers: Held where it is the wanted one.
-fn version_slot(two: Two, major: u16, minor: u16) -> Slot
-    ensures { result ≡ version_of major minor two.first two.second }
+fn version_slot(two: Two, wanted: Version) -> Slot
+    ensures { result ≡ version_of wanted.major wanted.minor two.first two.second }
 {
     let x = two.first;
     let y = two.second;
     match x {
         Slot::Held(m) => match y {
             Slot::Held(n) => {
-                if m != major as usize {
+                if m != wanted.major as usize {
                     return Slot::Other;
                 }
-                if n != minor as usize {
+                if n != wanted.minor as usize {
                     return Slot::Other;
                 }
                 Slot::Held(0)
@@ -183,162 +196,129 @@ fn version_slot(two: Two, major: u16, minor: u16) -> Slot
 }
 
 // An object with `major` and `minor` once each.
-fn read_version(s: &[u8], from: usize, major: u16, minor: u16) -> Found
-    ensures { Relates (Came (VersionIs major minor)) (read_at (read_value 13) s.now from) (slot_read result) }
+// The five readers stay five: each looks for the opening bracket of another level, and makes another slot of what the walk holds.
+fn read_version(s: &[u8], from: usize, wanted: Version) -> Option<(usize, Slot)>
+    ensures { Relates (Came (VersionIs wanted.major wanted.minor)) (read_at (read_value 13) s.now from) (reading result) }
 {
-    if json_text::byte_at(s, from) == BEGIN_OBJECT {
-        let Walked::Through(j, two) = version_members(s, from + 1) else {
-            return Found::Wrong;
-        };
-        let x = version_slot(two, major, minor);
-        return Found::Value(j, x);
+    if json_text::byte_at(s, from) == Some(b'{') {
+        let (j, two) = walk(&VersionMembers, s, from + 1)?;
+        let x = version_slot(two, wanted);
+        return Some((j, x));
     }
-    let Next::At(j) = json_values::skip_value(s, from, 13) else {
-        return Found::Wrong;
-    };
-    Found::Value(j, Slot::Spoiled)
+    let j = json_values::skip_value(s, from, 13)?;
+    Some((j, Slot::Spoiled))
 }
 
 // ---- `ids`
 
-fn ids_item(s: &[u8], at: usize, two: Two) -> Walked
-    ensures { Relates (Extends Strings two) (read_at (read_value 12) s.now at) (two_read result) }
-{
-    let Next::At(j) = json_text::strings::skip_ascii_string(s, at) else {
-        return ids_value(s, at, two);
-    };
-    Walked::Through(j, two)
+// The ids.
+#[derive(Drop)]
+struct IdsItems;
+
+impl Level for IdsItems {
+    ghost Element = { Json };
+
+    ghost CLOSE = { 93 };
+
+    ghost reader = { read_value 12 };
+
+    ghost holds = { λ l s. Strings };
+
+    const CLOSE: u8 = b']';
+
+    fn start(&self) -> Two {
+        Two {
+            first: Slot::Other,
+            second: Slot::Absent,
+        }
+    }
+
+    fn item(&self, s: &[u8], at: usize, two: Two) -> Option<(usize, Two)> {
+        let Some(j) = json_text::strings::skip_ascii_string(s, at) else {
+            return ids_value(s, at, two);
+        };
+        Some((j, two))
+    }
 }
 
 // Any value.
-fn ids_value(s: &[u8], at: usize, two: Two) -> Walked
-    ensures { Relates (Extends Strings two) (read_at (read_value 12) s.now at) (two_read result) }
+fn ids_value(s: &[u8], at: usize, two: Two) -> Option<(usize, Two)>
+    ensures { Relates (Extends Strings two) (read_at (read_value 12) s.now at) (reading result) }
 {
     let b = json_text::byte_at(s, at);
-    let Next::At(j) = json_values::skip_value(s, at, 12) else {
-        return Walked::Stuck;
-    };
-    if b == QUOTATION_MARK {
-        return Walked::Through(j, two);
+    let j = json_values::skip_value(s, at, 12)?;
+    if b == Some(b'"') {
+        return Some((j, two));
     }
-    Walked::Through(
+    Some((
         j,
         Two {
             first: Slot::Spoiled,
             second: Slot::Absent,
         },
-    )
-}
-
-// What follows the opening bracket of the ids.
-fn ids_items(s: &[u8], from: usize) -> Walked
-    ensures { Relates Strings (read_at (listed (read_value 12) (text "]")) s.now from) (two_read result) }
-{
-    let first = json_text::skip_blanks(s, from);
-    let mut two = Two {
-        first: Slot::Other,
-        second: Slot::Absent,
-    };
-    if json_text::byte_at(s, first) == END_ARRAY {
-        return Walked::Through(first + 1, two);
-    }
-    let mut at = first;
-    loop {
-        let Walked::Through(j, next) = ids_item(s, at, two) else {
-            return Walked::Stuck;
-        };
-        let k = json_text::skip_blanks(s, j);
-        let b = json_text::byte_at(s, k);
-        if b == END_ARRAY {
-            return Walked::Through(k + 1, next);
-        }
-        if b != VALUE_SEPARATOR {
-            return Walked::Stuck;
-        }
-        two = next;
-        at = json_text::skip_blanks(s, k + 1);
-    }
+    ))
 }
 
 // An array of strings, held by its place.
-fn read_ids(s: &[u8], from: usize) -> Found
-    ensures { Relates (Came (IdsIs s.now)) (read_at (read_value 13) s.now from) (slot_read result) }
+fn read_ids(s: &[u8], from: usize) -> Option<(usize, Slot)>
+    ensures { Relates (Came (IdsIs s.now)) (read_at (read_value 13) s.now from) (reading result) }
 {
-    if json_text::byte_at(s, from) == BEGIN_ARRAY {
-        let Walked::Through(j, two) = ids_items(s, from + 1) else {
-            return Found::Wrong;
-        };
+    if json_text::byte_at(s, from) == Some(b'[') {
+        let (j, two) = walk(&IdsItems, s, from + 1)?;
         let x = two.first;
         return match x {
-            Slot::Other => Found::Value(j, Slot::Held(from)),
-            Slot::Absent => Found::Value(j, Slot::Spoiled),
-            Slot::Held(_) => Found::Value(j, Slot::Spoiled),
-            Slot::Spoiled => Found::Value(j, Slot::Spoiled),
+            Slot::Other => Some((j, Slot::Held(from))),
+            Slot::Absent => Some((j, Slot::Spoiled)),
+            Slot::Held(_) => Some((j, Slot::Spoiled)),
+            Slot::Spoiled => Some((j, Slot::Spoiled)),
         };
     }
-    let Next::At(j) = json_values::skip_value(s, from, 13) else {
-        return Found::Wrong;
-    };
-    Found::Value(j, Slot::Spoiled)
+    let j = json_values::skip_value(s, from, 13)?;
+    Some((j, Slot::Spoiled))
 }
 
 // ---- an object of the list
 
-fn listing_member(s: &[u8], at: usize, two: Two, major: u16, minor: u16) -> Walked
-    ensures { Relates (Extends (Names (text "version") (text "ids") (VersionIs major minor) (IdsIs s.now)) two) (read_at (read_member (read_value 13)) s.now at) (two_read result) }
-{
-    let Next::At(k) = member_value(s, at) else {
-        return Walked::Stuck;
-    };
-    let first = two.first;
-    let second = two.second;
-    if json_text::decoding::is_name(s, at, b"version") {
-        let Found::Value(j, y) = read_version(s, k, major, minor) else {
-            return Walked::Stuck;
-        };
-        let first = fill(first, y);
-        return Walked::Through(j, Two { first, second });
-    }
-    if json_text::decoding::is_name(s, at, b"ids") {
-        let Found::Value(j, y) = read_ids(s, k) else {
-            return Walked::Stuck;
-        };
-        let second = fill(second, y);
-        return Walked::Through(j, Two { first, second });
-    }
-    let Next::At(j) = json_values::skip_value(s, k, 13) else {
-        return Walked::Stuck;
-    };
-    Walked::Through(j, two)
+// The members of an object of the list.
+#[derive(Drop)]
+struct ListingMembers {
+    wanted: Version,
 }
 
-// What follows its opening brace.
-fn listing_members(s: &[u8], from: usize, major: u16, minor: u16) -> Walked
-    ensures { Relates (Names (text "version") (text "ids") (VersionIs major minor) (IdsIs s.now)) (read_at (listed (read_member (read_value 13)) (text "}")) s.now from) (two_read result) }
-{
-    let first = json_text::skip_blanks(s, from);
-    let mut two = Two {
-        first: Slot::Absent,
-        second: Slot::Absent,
-    };
-    if json_text::byte_at(s, first) == END_OBJECT {
-        return Walked::Through(first + 1, two);
+impl Level for ListingMembers {
+    ghost Element = { Bytes × Json };
+
+    ghost CLOSE = { 125 };
+
+    ghost reader = { read_member (read_value 13) };
+
+    ghost holds = { λ l s. Names (text "version") (text "ids") (VersionIs l.wanted.major l.wanted.minor) (IdsIs s) };
+
+    const CLOSE: u8 = b'}';
+
+    fn start(&self) -> Two {
+        Two {
+            first: Slot::Absent,
+            second: Slot::Absent,
+        }
     }
-    let mut at = first;
-    loop {
-        let Walked::Through(j, next) = listing_member(s, at, two, major, minor) else {
-            return Walked::Stuck;
-        };
-        let k = json_text::skip_blanks(s, j);
-        let b = json_text::byte_at(s, k);
-        if b == END_OBJECT {
-            return Walked::Through(k + 1, next);
+
+    fn item(&self, s: &[u8], at: usize, two: Two) -> Option<(usize, Two)> {
+        let k = member_value(s, at)?;
+        let first = two.first;
+        let second = two.second;
+        if json_text::decoding::is_name(s, at, b"version") {
+            let (j, y) = read_version(s, k, self.wanted)?;
+            let first = fill(first, y);
+            return Some((j, Two { first, second }));
         }
-        if b != VALUE_SEPARATOR {
-            return Walked::Stuck;
+        if json_text::decoding::is_name(s, at, b"ids") {
+            let (j, y) = read_ids(s, k)?;
+            let second = fill(second, y);
+            return Some((j, Two { first, second }));
         }
-        two = next;
-        at = json_text::skip_blanks(s, k + 1);
+        let j = json_values::skip_value(s, k, 13)?;
+        Some((j, two))
     }
 }
 
@@ -362,20 +342,16 @@ fn listing_slot(two: Two) -> Slot
 }
 
 // An object with `version` once and `ids` once.
-fn read_listing(s: &[u8], from: usize, major: u16, minor: u16) -> Found
-    ensures { Relates (ListingIs s.now major minor) (read_at (read_value 14) s.now from) (slot_read result) }
+fn read_listing(s: &[u8], from: usize, wanted: Version) -> Option<(usize, Slot)>
+    ensures { Relates (ListingIs s.now wanted.major wanted.minor) (read_at (read_value 14) s.now from) (reading result) }
 {
-    if json_text::byte_at(s, from) == BEGIN_OBJECT {
-        let Walked::Through(j, two) = listing_members(s, from + 1, major, minor) else {
-            return Found::Wrong;
-        };
+    if json_text::byte_at(s, from) == Some(b'{') {
+        let (j, two) = walk(&ListingMembers { wanted }, s, from + 1)?;
         let x = listing_slot(two);
-        return Found::Value(j, x);
+        return Some((j, x));
     }
-    let Next::At(j) = json_values::skip_value(s, from, 14) else {
-        return Found::Wrong;
-    };
-    Found::Value(j, Slot::Spoiled)
+    let j = json_values::skip_value(s, from, 14)?;
+    Some((j, Slot::Spoiled))
 }
 
 // ---- the list
@@ -397,187 +373,157 @@ fn earlier(x: Slot, y: Slot) -> Slot
     }
 }
 
-fn list_item(s: &[u8], at: usize, two: Two, major: u16, minor: u16) -> Walked
-    ensures { Relates (Extends (Listings s.now major minor) two) (read_at (read_value 14) s.now at) (two_read result) }
-{
-    let Found::Value(j, y) = read_listing(s, at, major, minor) else {
-        return Walked::Stuck;
-    };
-    let x = two.first;
-    let first = earlier(x, y);
-    Walked::Through(
-        j,
-        Two {
-            first,
-            second: Slot::Absent,
-        },
-    )
+// The objects of the list.
+#[derive(Drop)]
+struct ListItems {
+    wanted: Version,
 }
 
-// What follows the opening bracket of the list.
-fn list_items(s: &[u8], from: usize, major: u16, minor: u16) -> Walked
-    ensures { Relates (Listings s.now major minor) (read_at (listed (read_value 14) (text "]")) s.now from) (two_read result) }
-{
-    let first = json_text::skip_blanks(s, from);
-    let mut two = Two {
-        first: Slot::Other,
-        second: Slot::Absent,
-    };
-    if json_text::byte_at(s, first) == END_ARRAY {
-        return Walked::Through(first + 1, two);
+impl Level for ListItems {
+    ghost Element = { Json };
+
+    ghost CLOSE = { 93 };
+
+    ghost reader = { read_value 14 };
+
+    ghost holds = { λ l s. Listings s l.wanted.major l.wanted.minor };
+
+    const CLOSE: u8 = b']';
+
+    fn start(&self) -> Two {
+        Two {
+            first: Slot::Other,
+            second: Slot::Absent,
+        }
     }
-    let mut at = first;
-    loop {
-        let Walked::Through(j, next) = list_item(s, at, two, major, minor) else {
-            return Walked::Stuck;
-        };
-        let k = json_text::skip_blanks(s, j);
-        let b = json_text::byte_at(s, k);
-        if b == END_ARRAY {
-            return Walked::Through(k + 1, next);
-        }
-        if b != VALUE_SEPARATOR {
-            return Walked::Stuck;
-        }
-        two = next;
-        at = json_text::skip_blanks(s, k + 1);
+
+    fn item(&self, s: &[u8], at: usize, two: Two) -> Option<(usize, Two)> {
+        let (j, y) = read_listing(s, at, self.wanted)?;
+        let x = two.first;
+        let first = earlier(x, y);
+        Some((
+            j,
+            Two {
+                first,
+                second: Slot::Absent,
+            },
+        ))
     }
 }
 
 // An array of such objects.
-fn read_list(s: &[u8], from: usize, major: u16, minor: u16) -> Found
-    ensures { Relates (Came (ListIs s.now major minor)) (read_at (read_value 15) s.now from) (slot_read result) }
+fn read_list(s: &[u8], from: usize, wanted: Version) -> Option<(usize, Slot)>
+    ensures { Relates (Came (ListIs s.now wanted.major wanted.minor)) (read_at (read_value 15) s.now from) (reading result) }
 {
-    if json_text::byte_at(s, from) == BEGIN_ARRAY {
-        let Walked::Through(j, two) = list_items(s, from + 1, major, minor) else {
-            return Found::Wrong;
-        };
+    if json_text::byte_at(s, from) == Some(b'[') {
+        let (j, two) = walk(&ListItems { wanted }, s, from + 1)?;
         let x = two.first;
-        return Found::Value(j, x);
+        return Some((j, x));
     }
-    let Next::At(j) = json_values::skip_value(s, from, 15) else {
-        return Found::Wrong;
-    };
-    Found::Value(j, Slot::Spoiled)
+    let j = json_values::skip_value(s, from, 15)?;
+    Some((j, Slot::Spoiled))
 }
 
 // ---- the body
 
-fn body_member(s: &[u8], at: usize, two: Two, major: u16, minor: u16) -> Walked
-    ensures { Relates (Extends (Name (text "trustedFacets") (ListIs s.now major minor)) two) (read_at (read_member (read_value 15)) s.now at) (two_read result) }
-{
-    let Next::At(k) = member_value(s, at) else {
-        return Walked::Stuck;
-    };
-    let first = two.first;
-    let second = two.second;
-    if json_text::decoding::is_name(s, at, b"trustedFacets") {
-        let Found::Value(j, y) = read_list(s, k, major, minor) else {
-            return Walked::Stuck;
-        };
-        let first = fill(first, y);
-        return Walked::Through(j, Two { first, second });
-    }
-    let Next::At(j) = json_values::skip_value(s, k, 15) else {
-        return Walked::Stuck;
-    };
-    Walked::Through(j, two)
+// The members of the body.
+#[derive(Drop)]
+struct BodyMembers {
+    wanted: Version,
 }
 
-// What follows the opening brace of the body.
-fn body_members(s: &[u8], from: usize, major: u16, minor: u16) -> Walked
-    ensures { Relates (Name (text "trustedFacets") (ListIs s.now major minor)) (read_at (listed (read_member (read_value 15)) (text "}")) s.now from) (two_read result) }
-{
-    let first = json_text::skip_blanks(s, from);
-    let mut two = Two {
-        first: Slot::Absent,
-        second: Slot::Absent,
-    };
-    if json_text::byte_at(s, first) == END_OBJECT {
-        return Walked::Through(first + 1, two);
+impl Level for BodyMembers {
+    ghost Element = { Bytes × Json };
+
+    ghost CLOSE = { 125 };
+
+    ghost reader = { read_member (read_value 15) };
+
+    ghost holds = { λ l s. Name (text "trustedFacets") (ListIs s l.wanted.major l.wanted.minor) };
+
+    const CLOSE: u8 = b'}';
+
+    fn start(&self) -> Two {
+        Two {
+            first: Slot::Absent,
+            second: Slot::Absent,
+        }
     }
-    let mut at = first;
-    loop {
-        let Walked::Through(j, next) = body_member(s, at, two, major, minor) else {
-            return Walked::Stuck;
-        };
-        let k = json_text::skip_blanks(s, j);
-        let b = json_text::byte_at(s, k);
-        if b == END_OBJECT {
-            return Walked::Through(k + 1, next);
+
+    fn item(&self, s: &[u8], at: usize, two: Two) -> Option<(usize, Two)> {
+        let k = member_value(s, at)?;
+        let first = two.first;
+        let second = two.second;
+        if json_text::decoding::is_name(s, at, b"trustedFacets") {
+            let (j, y) = read_list(s, k, self.wanted)?;
+            let first = fill(first, y);
+            return Some((j, Two { first, second }));
         }
-        if b != VALUE_SEPARATOR {
-            return Walked::Stuck;
-        }
-        two = next;
-        at = json_text::skip_blanks(s, k + 1);
+        let j = json_values::skip_value(s, k, 15)?;
+        Some((j, two))
     }
 }
 
 // An object with `trustedFacets` once.
-fn read_body(s: &[u8], from: usize, major: u16, minor: u16) -> Found
-    ensures { Relates (BodyIs s.now major minor) (read_at (read_value 16) s.now from) (slot_read result) }
+fn read_body(s: &[u8], from: usize, wanted: Version) -> Option<(usize, Slot)>
+    ensures { Relates (BodyIs s.now wanted.major wanted.minor) (read_at (read_value 16) s.now from) (reading result) }
 {
-    if json_text::byte_at(s, from) == BEGIN_OBJECT {
-        let Walked::Through(j, two) = body_members(s, from + 1, major, minor) else {
-            return Found::Wrong;
-        };
+    if json_text::byte_at(s, from) == Some(b'{') {
+        let (j, two) = walk(&BodyMembers { wanted }, s, from + 1)?;
         let x = two.first;
-        return Found::Value(j, x);
+        return Some((j, x));
     }
-    let Next::At(j) = json_values::skip_value(s, from, 16) else {
-        return Found::Wrong;
-    };
-    Found::Value(j, Slot::Spoiled)
+    let j = json_values::skip_value(s, from, 16)?;
+    Some((j, Slot::Spoiled))
 }
 
 // The refusal of a body for the wanted version, 9 (over 65,536 bytes) to 12; or the place of the selected ids.
-pub fn select(body: &[u8], major: u16, minor: u16) -> Selection
-    ensures { Answers major minor body.now result }
+pub fn select(body: &[u8], wanted: Version) -> Result<usize, Refusal>
+    ensures { Answers wanted.major wanted.minor body.now result }
 {
     if 65536 < body.len() {
-        return Selection::Refused(Refusal::LongList);
+        return Err(Refusal::LongList);
     }
     let i = json_text::skip_blanks(body, 0);
-    let Found::Value(j, x) = read_body(body, i, major, minor) else {
-        return Selection::Refused(Refusal::Unreadable);
+    let Some((j, x)) = read_body(body, i, wanted) else {
+        return Err(Refusal::Unreadable);
     };
     let k = json_text::skip_blanks(body, j);
     if k < body.len() {
-        return Selection::Refused(Refusal::Unreadable);
+        return Err(Refusal::Unreadable);
     }
     match x {
-        Slot::Held(p) => Selection::Ids(p),
-        Slot::Other => Selection::Refused(Refusal::NoVersion),
-        Slot::Absent => Selection::Refused(Refusal::Misshapen),
-        Slot::Spoiled => Selection::Refused(Refusal::Misshapen),
+        Slot::Held(p) => Ok(p),
+        Slot::Other => Err(Refusal::NoVersion),
+        Slot::Absent => Err(Refusal::Misshapen),
+        Slot::Spoiled => Err(Refusal::Misshapen),
     }
 }
 
 // ---- the selected entries, one by one
 
-// The place of the first string of the ids at a place; Bad where there is none.
-pub fn first_entry(body: &[u8], ids: usize) -> Next
+// The place of the first string of the ids at a place; None where there is none.
+pub fn first_entry(body: &[u8], ids: usize) -> Option<usize>
     ensures { result ≡ first_entry body.now ids }
 {
-    if json_text::byte_at(body, ids) != BEGIN_ARRAY {
-        return Next::Bad;
+    if json_text::byte_at(body, ids) != Some(b'[') {
+        return None;
     }
     let i = json_text::skip_blanks(body, ids + 1);
-    if json_text::byte_at(body, i) == END_ARRAY {
-        return Next::Bad;
+    if json_text::byte_at(body, i) == Some(b']') {
+        return None;
     }
-    Next::At(i)
+    Some(i)
 }
 
-// The place of the string behind one that ends at a place; Bad where it is the last.
-pub fn next_entry(body: &[u8], end: usize) -> Next
+// The place of the string behind one that ends at a place; None where it is the last.
+pub fn next_entry(body: &[u8], end: usize) -> Option<usize>
     ensures { result ≡ next_entry body.now end }
 {
     let k = json_text::skip_blanks(body, end);
-    if json_text::byte_at(body, k) != VALUE_SEPARATOR {
-        return Next::Bad;
+    if json_text::byte_at(body, k) != Some(b',') {
+        return None;
     }
     let i = json_text::skip_blanks(body, k + 1);
-    Next::At(i)
+    Some(i)
 }

@@ -1,15 +1,8 @@
 -- Decimal numbers as the code answers them.
 use Rattle.std.specs.Prelude.{◌≡◌, ℕ, ◌-◌, ◌≤◌, take}
-use Rattle.std.proofs.Math.Option.{Option, none, some}
 use Prim.Native.Char.{code}
 use Rattle.ascii.specs.Ascii.{decimal}
-use Rattle.ascii.specs.declared.decimals.Number.{Number}
-use Rattle.ascii.specs.declared.decimals.Number.TheVariants.{Value, Malformed}
 use Rattle.ascii.specs.declared.decimals.Decimal.{Decimal}
-
-unfoldable pub number_of : Option ℕ → Number
-number_of none = Malformed
-number_of (some n) = Value n
 
 -- n is the value of the digit b
 pub record DigitIs (b n : ℕ) : Type 0 where

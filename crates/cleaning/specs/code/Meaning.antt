@@ -1,41 +1,25 @@
 -- What the code of cleaning answers, in the terms of Clean.
-use Rattle.std.specs.Prelude.{◌≡◌, Bool, true, false, List, ◌++◌, map, ℕ, ◌+◌, ◌≤◌, length}
-use Rattle.std.proofs.Math.Option.{none, some}
+use Rattle.std.specs.Prelude.{◌≡◌, Bool, true, false, List, ◌++◌, map, ℕ, ◌+◌, ◌≤◌, length, None, Some, Result, Ok, Err}
 use Prim.Native.Char.{code}
 use Rattle.ascii.specs.Ascii.{Bytes, text, prefixed, join_with, decimal, written_over}
 use Rattle.origin.specs.Origin.{normal_form}
 use Rattle.normal_forms.specs.code.Writing.{Wrote}
 use Rattle.entries.specs.Causes.{kept}
-use Rattle.entries.specs.code.Owner.{Owned}
-use Rattle.entries.specs.code.Reading.{IdsThere, entries_at}
-use Rattle.entries.specs.declared.Owner.{Owner}
+use Rattle.entries.specs.code.Selecting.{listed}
+use Rattle.entries.specs.declared.selected.Selected.{Selected}
 use Rattle.refusals.specs.declared.Refusal.{Refusal}
-use Rattle.trusted_list.specs.TrustedList.{entries}
-use Rattle.cleaning.specs.Clean.{quoted, clean_refusal, Cleaned, not_cleaned, cleaned}
-use Rattle.cleaning.specs.declared.Output.{Output}
-use Rattle.cleaning.specs.declared.Output.TheVariants.{Refused as NotWritten, Length}
-use Rattle.cleaning.specs.declared.Ready.{Ready}
-use Rattle.cleaning.specs.declared.Ready.TheVariants.{Refused, Listed}
-
--- ---- before the list is written
-
--- nothing but refusal 15 is left; this is the AppID's owner, and the selected ids stand at this place
-pub record ListedAt (appid : Bytes) (major minor : ℕ) (body table : Bytes) (o : Owner) (ids : ℕ) : Type 0 where
-  pub none_fits : clean_refusal appid major minor body table ≡ none
-  pub short : length body ≤ 65536
-  pub owned : Owned appid table o
-  pub there : IdsThere body ids
-  pub is : entries_at body ids ≡ entries major minor body
-
-pub data Prepares (appid : Bytes) (major minor : ℕ) (body table : Bytes) : Ready → Type 0 where
-  is_refused : {x : Refusal} → clean_refusal appid major minor body table ≡ some x → Prepares appid major minor body table (Refused x)
-  is_listed : {o : Owner} {ids : ℕ} → ListedAt appid major minor body table o ids → Prepares appid major minor body table (Listed o ids)
+use Rattle.trusted_list.specs.TrustedList.{list_refusal, entries}
+use Rattle.cleaning.specs.Clean.{quoted, render, clean_refusal, Cleaned, not_cleaned, cleaned}
 
 -- ---- the ids
 
 -- the normal forms of the kept entries
 unfoldable pub names : Bytes → Bytes → List Bytes → List Bytes
 names appid table es = map normal_form (kept appid table es)
+
+-- the same of the list that is selected
+abbrev pub names_of : Selected → List Bytes
+names_of l = names l.appid.now l.table.now (listed l)
 
 -- what stands before an id: its quotation mark, and a comma unless it is the first
 unfoldable pub opening : Bool → Bytes
@@ -64,7 +48,22 @@ list_head major minor =
     ++ text ",\"minor\":" ++ decimal minor
     ++ text "},\"ids\":["
 
+-- the list as it is written, for a version
+abbrev pub list_of : ℕ → ℕ → Selected → Bytes
+list_of major minor l = render major minor (names_of l)
+
+-- the body has this version's entries selected
+pub record ListedAs (major minor : ℕ) (l : Selected) : Type 0 where
+  pub accepted : list_refusal major minor l.body.now ≡ None
+  pub is : listed l ≡ entries major minor l.body.now
+
+-- refusals 2, 3 and 9 to 13; or the list that the body selects
+pub data Prepares (appid : Bytes) (major minor : ℕ) (body table : Bytes) : Result Selected Refusal → Type 0 where
+  is_refused : {x : Refusal} → clean_refusal appid major minor body table ≡ Some x → Prepares appid major minor body table (Err x)
+  is_listed : {l : Selected} → clean_refusal appid major minor body table ≡ None → ListedAs major minor l → l.appid.now ≡ appid → l.table.now ≡ table → l.body.now ≡ body
+      → Prepares appid major minor body table (Ok l)
+
 -- what the code answers, and the output's bytes before and after
-pub data Cleans (before after : Bytes) : Cleaned → Output → Type 0 where
-  refuses : {x : Refusal} → after ≡ before → Cleans before after (not_cleaned x) (NotWritten x)
-  writes : {list : Bytes} {n : ℕ} → n ≡ length list → after ≡ written_over list before → Cleans before after (cleaned list) (Length n)
+pub data Cleans (before after : Bytes) : Cleaned → Result ℕ Refusal → Type 0 where
+  refuses : {x : Refusal} → after ≡ before → Cleans before after (not_cleaned x) (Err x)
+  writes : {list : Bytes} {n : ℕ} → n ≡ length list → after ≡ written_over list before → Cleans before after (cleaned list) (Ok n)

@@ -1,6 +1,5 @@
 -- A span of the table's lines that has every rule deeper than a private label. Any such span is right; that it is short is measured, not proved.
-use Rattle.std.specs.Prelude.{◌≡◌, List, ◌++◌, true, false, ℕ, ◌-◌, ◌≤◌, length, take, drop}
-use Rattle.std.proofs.Math.Option.{none, some}
+use Rattle.std.specs.Prelude.{◌≡◌, List, ◌++◌, false, ℕ, ◌-◌, ◌≤◌, length, take, drop, Option, None, Some, is_some}
 use Prim.Native.Char.{code}
 use Rattle.ascii.specs.Ascii.{Bytes, is_none, split_at}
 use Rattle.hosts.specs.Host.{labels}
@@ -8,10 +7,8 @@ use Rattle.suffix.specs.Suffix.{read_lines, read_table, private_label}
 use Rattle.suffix.specs.code.Pass.{best_of, LabelAt}
 use Rattle.suffix.specs.code.Deeper.{deeper_in}
 use Rattle.suffix.specs.code.Depth.{deeper_than}
-use Rattle.suffix.specs.declared.Best.TheVariants.{Sizes}
 use Rattle.label_lookup.specs.declared.Deeper.{Deeper}
 use Rattle.label_lookup.specs.declared.Owner.{Owner}
-use Rattle.label_lookup.specs.declared.Owner.TheVariants.{BadTable, Label}
 
 -- the table's lines are those before the span, in it and behind it; no rule before or behind it goes deeper than the label
 pub record Spans (table label : Bytes) (from to : ℕ) : Type 0 where
@@ -25,16 +22,17 @@ pub record Spans (table label : Bytes) (from to : ℕ) : Type 0 where
 
 -- what is held of a host where rules go deeper than its private label: what the table finds for it, and the span of these rules
 pub record Held (table host label : Bytes) (d : Deeper) : Type 0 where
-  pub label_is : private_label table host ≡ some label
-  pub found : best_of (labels host) (read_table table) ≡ Sizes d.exception d.most
+  pub label_is : private_label table host ≡ Some label
+  pub found : best_of (labels host) (read_table table) ≡ Some d.sizes
   pub spans : Spans table label d.from d.to
 
 -- where the label begins, whether a rule goes deeper, and what is held then
-pub record OwnerFound (table host : Bytes) (start : ℕ) (d : Deeper) : Type 0 where
-  pub place : LabelAt table host start
-  pub present_is : d.present ≡ deeper_than table (private_label table host)
-  pub held : d.present ≡ true → Held table host (drop start host) d
+pub record OwnerFound (table host : Bytes) (o : Owner) : Type 0 where
+  pub place : LabelAt table host o.start
+  pub present_is : is_some o.deeper ≡ deeper_than table (private_label table host)
+  pub held : (d : Deeper) → o.deeper ≡ Some d → Held table host (drop o.start host) d
 
-pub data OwnerIs (table host : Bytes) : Owner → Type 0 where
-  bad_table : read_table table ≡ none → OwnerIs table host BadTable
-  owner_is : {start : ℕ} {d : Deeper} → is_none (read_table table) ≡ false → OwnerFound table host start d → OwnerIs table host (Label start d)
+-- none where the table is bad
+pub data OwnerIs (table host : Bytes) : Option Owner → Type 0 where
+  bad_table : read_table table ≡ None → OwnerIs table host None
+  owner_is : {o : Owner} → is_none (read_table table) ≡ false → OwnerFound table host o → OwnerIs table host (Some o)

@@ -1,9 +1,10 @@
--- What a normal form keeps, what its bytes are, and where its parts stand.
-use Rattle.std.specs.Prelude.{◌≡◌, [], ◌++◌, Bool, ◌&&◌, ◌||◌, not, ℕ, ◌+◌, ◌≤◌, ◌<◌, length, get_or, eqb, if◌then◌else◌}
+-- What a normal form keeps, what its bytes are, and how it is made of its parts.
+use Rattle.std.specs.Prelude.{[], ◌++◌, Bool, ◌&&◌, ◌||◌, not, ℕ, ◌+◌, eqb, if◌then◌else◌, Option, None, Some}
 use Prim.Native.Char.{code}
 use Rattle.ascii.specs.Ascii.{Bytes, is_empty, between, lower, same, text}
 use Rattle.origin.specs.Origin.{Authority, shown_port}
 use Rattle.origin.specs.code.Parts.{part}
+use Rattle.normal_forms.specs.declared.web.Web.{Web}
 
 -- the port is absent or 443
 unfoldable pub is_hidden : Bytes → Bool
@@ -17,13 +18,15 @@ normal_authority a = record { host = lower a.host; port = if is_hidden a.port th
 unfoldable pub is_plain_byte : ℕ → Bool
 is_plain_byte b = between 0x20 0x7E b && not (eqb b (code "\"")) && not (eqb b (code "\\"))
 
--- a host, and a colon and a port or nothing, that end at these places
-pub record Placed (s : Bytes) (end tail : ℕ) : Type 0 where
-  pub low : 8 ≤ end
-  pub middle : end ≤ tail
-  pub high : tail ≤ length s
-  pub colon : end < tail → get_or s end 0 ≡ code ":"
+-- the port of a web origin
+abbrev pub port_in : Web → Bytes
+port_in w = part w.s.now (w.end + 1) w.tail
 
--- the normal form of a web origin by these places
-unfoldable pub web_at : Bytes → ℕ → ℕ → Bytes
-web_at s end tail = text "https://" ++ lower (part s 8 end) ++ shown_port (part s (end + 1) tail)
+-- the normal form of a web origin by its places
+unfoldable pub web_at : Web → Bytes
+web_at w = text "https://" ++ lower (part w.s.now 8 w.end) ++ shown_port (port_in w)
+
+-- the normal form of a text that is this web origin, or none
+unfoldable pub normal_by : Bytes → Option Web → Bytes
+normal_by s None = s
+normal_by s (Some w) = web_at w

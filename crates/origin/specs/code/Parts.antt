@@ -1,24 +1,18 @@
 -- What the code answers: where the parts of an identifier stand in it.
-use Rattle.std.specs.Prelude.{◌≡◌, [], Bool, ◌||◌, ℕ, ◌+◌, ◌-◌, ◌≤◌, ◌<◌, length, take, drop, get_or, if◌then◌else◌}
-use Rattle.std.proofs.Math.Option.{Option, none, some}
+use Rattle.std.specs.Prelude.{◌≡◌, [], Bool, ◌||◌, ℕ, ◌+◌, ◌-◌, ◌≤◌, ◌<◌, length, take, drop, get_or, if◌then◌else◌, Option, None, Some}
 use Prim.Native.Char.{code}
 use Rattle.ascii.specs.Ascii.{Bytes, is_empty, same, begins_with, text, number16}
-use Rattle.ascii.specs.code.Numbers.{number_of}
-use Rattle.ascii.specs.declared.decimals.Number.{Number}
-use Rattle.ascii.specs.declared.decimals.Number.TheVariants.{Malformed as NoNumber}
 use Rattle.origin.specs.Origin.{Authority, effective_port}
 use Rattle.origin.specs.declared.Parts.{Parts}
-use Rattle.origin.specs.declared.Reading.{Reading}
-use Rattle.origin.specs.declared.Reading.TheVariants.{Found, Malformed}
 
 -- the bytes of s from the place a up to the place b
 unfoldable pub part : Bytes → ℕ → ℕ → Bytes
 part s a b = take (b - a) (drop a s)
 
 -- the host stands behind `https://`, the port behind the host and its colon
-unfoldable pub authority_in : Bytes → Reading → Option Authority
-authority_in s Malformed = none
-authority_in s (Found p) = some (record { host = part s 8 p.end; port = part s (p.end + 1) p.tail; tail = drop p.tail s })
+unfoldable pub authority_in : Bytes → Option Parts → Option Authority
+authority_in s None = None
+authority_in s (Some p) = Some (record { host = part s 8 p.end; port = part s (p.end + 1) p.tail; tail = drop p.tail s })
 
 pub record Inside (s : Bytes) (p : Parts) : Type 0 where
   pub low : 8 ≤ p.end
@@ -29,12 +23,12 @@ pub record Inside (s : Bytes) (p : Parts) : Type 0 where
   -- the port by its value, 443 where it is absent
   pub port_is : p.port ≡ effective_port (part s (p.end + 1) p.tail)
 
-pub data Within (s : Bytes) : Reading → Type 0 where
-  nowhere : Within s Malformed
-  within : {p : Parts} → Inside s p → Within s (Found p)
+pub data Within (s : Bytes) : Option Parts → Type 0 where
+  nowhere : Within s None
+  within : {p : Parts} → Inside s p → Within s (Some p)
 
 -- r is where the parts of the authority o stand in s
-pub record Reads (s : Bytes) (o : Option Authority) (r : Reading) : Type 0 where
+pub record Reads (s : Bytes) (o : Option Authority) (r : Option Parts) : Type 0 where
   pub is : authority_in s r ≡ o
   pub places : Within s r
 
@@ -46,8 +40,8 @@ pub record HostEnd (s : Bytes) (end : ℕ) : Type 0 where
   pub high : end ≤ length s
 
 -- the number of a port
-unfoldable pub port_of : Bytes → Number
-port_of p = if begins_with (text "0") p then NoNumber else number_of (number16 p)
+unfoldable pub port_of : Bytes → Option ℕ
+port_of p = if begins_with (text "0") p then None else number16 p
 
 -- a host that ends at this place, and no port
 abbrev pub without_port : Bytes → ℕ → Authority

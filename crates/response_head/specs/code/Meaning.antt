@@ -1,34 +1,13 @@
 -- What the answers of the code mean, in the terms of ResponseHead.
-use Rattle.std.specs.Prelude.{◌≡◌, Bool, true, false, ◌||◌, List, [], ◌∷◌, ◌++◌, ℕ, ◌-◌, ◌≤◌, length, take, drop, if◌then◌else◌}
-use Rattle.std.proofs.Math.Option.{Option, none, some}
-use Rattle.ascii.specs.Ascii.{Bytes, ◌>>=◌, all, is_digit, is_letter, same_no_case}
-use Rattle.response_head.specs.ResponseHead.{is_blank, is_text_byte, is_tchar, is_other, Field, Head, redirect, answer, trim_end, values_of, read_field, head_of, is_true, is_list_type, authorized_name, type_name, location_name}
-use Rattle.response_head.specs.declared.Run.{Run}
-use Rattle.response_head.specs.declared.Run.TheVariants.{Blank, Text, Tchar, Other}
+use Rattle.std.specs.Prelude.{◌≡◌, Bool, true, List, [], ◌∷◌, ◌++◌, ℕ, ◌-◌, ◌≤◌, length, take, drop, if◌then◌else◌, Option, None, Some, unwrap_or}
+use Rattle.ascii.specs.Ascii.{Bytes, ◌>>=◌, all, same_no_case}
+use Rattle.response_head.specs.ResponseHead.{is_text_byte, Field, Head, redirect, answer, trim_end, values_of, read_field, head_of, is_true, is_list_type, authorized_name, type_name, location_name}
 use Rattle.response_head.specs.declared.FieldLine.{FieldLine}
-use Rattle.response_head.specs.declared.FieldLine.TheVariants.{Parts, Malformed as NoField}
-use Rattle.response_head.specs.declared.First.{First}
-use Rattle.response_head.specs.declared.First.TheVariants.{Unseen, Right, Wrong}
 use Rattle.response_head.specs.declared.Place.{Place}
 use Rattle.response_head.specs.declared.Place.TheVariants.{Nowhere, Between, Several}
 use Rattle.response_head.specs.declared.Seen.{Seen}
-use Rattle.response_head.specs.declared.Fields.{Fields}
-use Rattle.response_head.specs.declared.Fields.TheVariants.{Read, Malformed as NoFields}
-use Rattle.response_head.specs.declared.Reading.{Reading}
-use Rattle.response_head.specs.declared.Reading.TheVariants.{Redirect, Answer, Malformed as NoHead}
-
--- ---- bytes
-
--- DIGIT / ALPHA
-unfoldable pub is_alphanumeric : ℕ → Bool
-is_alphanumeric b = is_digit b || is_letter b
-
--- the bytes that a scan passes
-abbrev pub in_run : Run → ℕ → Bool
-in_run Blank = is_blank
-in_run Text = is_text_byte
-in_run Tchar = is_tchar
-in_run (Other d) = is_other d
+use Rattle.response_head.specs.declared.Head.{Head as Reading}
+use Rattle.response_head.specs.declared.Head.TheVariants.{Redirect, Answer}
 
 -- ---- lines
 
@@ -39,35 +18,27 @@ pub record Trims (s : Bytes) (from r : ℕ) : Type 0 where
   pub is : take (r - from) (drop from s) ≡ trim_end (drop from s)
 
 -- the name stands before the colon, the value between two places
-unfoldable pub field_in : Bytes → FieldLine → Option Field
-field_in l NoField = none
-field_in l (Parts colon from to) = some (record { name = take colon l; value = take (to - from) (drop from l) })
+unfoldable pub field_in : Bytes → Option FieldLine → Option Field
+field_in l None = None
+field_in l (Some p) = Some (record { name = take p.colon l; value = take (p.to - p.from) (drop p.from l) })
 
-pub data FieldPlaced (l : Bytes) : FieldLine → Type 0 where
-  no_field : FieldPlaced l NoField
-  field : {colon from to : ℕ} → colon ≤ length l → from ≤ to → to ≤ length l → FieldPlaced l (Parts colon from to)
+pub data FieldPlaced (l : Bytes) : Option FieldLine → Type 0 where
+  no_field : FieldPlaced l None
+  field : {p : FieldLine} → p.colon ≤ length l → p.from ≤ p.to → p.to ≤ length l → FieldPlaced l (Some p)
 
-pub record ReadsField (l : Bytes) (r : FieldLine) : Type 0 where
+pub record ReadsField (l : Bytes) (r : Option FieldLine) : Type 0 where
   pub is : field_in l r ≡ read_field l
   pub places : FieldPlaced l r
 
 -- ---- what is seen of the fields
 
--- of the lines of one name the first
-unfoldable pub first_of : (Bytes → Bool) → List Bytes → First
-first_of p [] = Unseen
-first_of p (v ∷ vs) = if p v then Right else Wrong
+-- of the lines of one name the first: whether it passes
+unfoldable pub first_of : (Bytes → Bool) → List Bytes → Option Bool
+first_of p [] = None
+first_of p (v ∷ vs) = Some (p v)
 
-unfoldable pub first_by : First → Bool → First
-first_by Unseen true = Right
-first_by Unseen false = Wrong
-first_by Right q = Right
-first_by Wrong q = Wrong
-
-unfoldable pub is_right : First → Bool
-is_right Unseen = false
-is_right Right = true
-is_right Wrong = false
+unfoldable pub first_by : Option Bool → Bool → Option Bool
+first_by x q = Some (unwrap_or x q)
 
 -- one Location stands between two places
 pub data PlaceIs (s : Bytes) : List Bytes → Place → Type 0 where
@@ -94,9 +65,9 @@ pub record Sees (s : Bytes) (fs : List Field) (x : Seen) : Type 0 where
   pub typed_is : x.typed ≡ first_of is_list_type (values_of type_name fs)
   pub location_is : PlaceIs s (values_of location_name fs) x.location
 
-pub data FieldsRead (s : Bytes) : Option (List Field) → Fields → Type 0 where
-  no_fields : FieldsRead s none NoFields
-  fields : {fs : List Field} {x : Seen} → Sees s fs x → FieldsRead s (some fs) (Read x)
+pub data FieldsRead (s : Bytes) : Option (List Field) → Option Seen → Type 0 where
+  no_fields : FieldsRead s None None
+  fields : {fs : List Field} {x : Seen} → Sees s fs x → FieldsRead s (Some fs) (Some x)
 
 -- a line of text bytes between two places
 pub record TextLine (s : Bytes) (at end : ℕ) : Type 0 where
@@ -105,25 +76,25 @@ pub record TextLine (s : Bytes) (at end : ℕ) : Type 0 where
   pub is : all is_text_byte (take (end - at) (drop at s)) ≡ true
 
 -- behind the fields that x stands for, one field more
-pub record Adds (s : Bytes) (at end : ℕ) (x : Seen) (r : Fields) : Type 0 where
-  pub is : (fs : List Field) → Sees s fs x → FieldsRead s (read_field (take (end - at) (drop at s)) >>= λ f. some (fs ++ (f ∷ []))) r
+pub record Adds (s : Bytes) (at end : ℕ) (x : Seen) (r : Option Seen) : Type 0 where
+  pub is : (fs : List Field) → Sees s fs x → FieldsRead s (read_field (take (end - at) (drop at s)) >>= λ f. Some (fs ++ (f ∷ []))) r
 
 -- ---- the head
 
-unfoldable pub head_in : Bytes → Reading → Option Head
-head_in s NoHead = none
-head_in s (Answer status type_seen) = some (answer status type_seen)
-head_in s (Redirect status authorized from to) = some (redirect status authorized (take (to - from) (drop from s)))
+unfoldable pub head_in : Bytes → Option Reading → Option Head
+head_in s None = None
+head_in s (Some (Answer status type_seen)) = Some (answer status type_seen)
+head_in s (Some (Redirect status authorized from to)) = Some (redirect status authorized (take (to - from) (drop from s)))
 
-pub data HeadPlaced (s : Bytes) : Reading → Type 0 where
-  no_head : HeadPlaced s NoHead
-  an_answer : {status : ℕ} {type_seen : Bool} → HeadPlaced s (Answer status type_seen)
-  a_redirect : {status : ℕ} {authorized : Bool} {from to : ℕ} → from ≤ to → to ≤ length s → HeadPlaced s (Redirect status authorized from to)
+pub data HeadPlaced (s : Bytes) : Option Reading → Type 0 where
+  no_head : HeadPlaced s None
+  an_answer : {status : ℕ} {type_seen : Bool} → HeadPlaced s (Some (Answer status type_seen))
+  a_redirect : {status : ℕ} {authorized : Bool} {from to : ℕ} → from ≤ to → to ≤ length s → HeadPlaced s (Some (Redirect status authorized from to))
 
-pub record ReadsHead (s : Bytes) (o : Option Head) (r : Reading) : Type 0 where
+pub record ReadsHead (s : Bytes) (o : Option Head) (r : Option Reading) : Type 0 where
   pub is : head_in s r ≡ o
   pub places : HeadPlaced s r
 
 -- what a status and the fields that x stands for make
-pub record Makes (status : ℕ) (x : Seen) (r : Reading) : Type 0 where
+pub record Makes (status : ℕ) (x : Seen) (r : Option Reading) : Type 0 where
   pub is : (s : Bytes) (fs : List Field) → Sees s fs x → ReadsHead s (head_of status fs) r

@@ -1,6 +1,5 @@
 -- How deep the rules of a table go along a host's last labels: what one pass needs to know, beside the sizes, of deeper rules.
-use Rattle.std.specs.Prelude.{◌≡◌, List, [], ◌∷◌, Bool, false, ℕ, suc, max, length, if◌then◌else◌}
-use Rattle.std.proofs.Math.Option.{Option, none, some}
+use Rattle.std.specs.Prelude.{◌≡◌, List, [], ◌∷◌, Bool, false, not, ℕ, suc, max, length, if◌then◌else◌, Option, None, Some}
 use Rattle.ascii.specs.Ascii.{Bytes, is_none, last_of}
 use Rattle.hosts.specs.Host.{labels}
 use Rattle.suffix.specs.Suffix.{Rule, content}
@@ -17,8 +16,8 @@ deepest host [] = 0
 deepest host (r ∷ rules) = max (depth_of host r) (deepest host rules)
 
 unfoldable pub line_depth : List Bytes → Option (List Rule) → ℕ
-line_depth host none = 0
-line_depth host (some rules) = deepest host rules
+line_depth host None = 0
+line_depth host (Some rules) = deepest host rules
 
 unfoldable pub lines_depth : List Bytes → List Bytes → ℕ
 lines_depth host [] = 0
@@ -28,11 +27,14 @@ lines_depth host (l ∷ ls) = max (line_depth host (read_line (content l))) (lin
 pub record Good (line : Bytes) : Type 0 where
   pub is : is_none (read_line line) ≡ false
 
+unfoldable pub is_good : Bytes → Bool
+is_good line = not (is_none (read_line line))
+
 -- tail has the host's last labels, one more than d, or all
 pub record Past (host tail : Bytes) (d : ℕ) : Type 0 where
   pub is : labels tail ≡ last_of (suc d) (labels host)
 
 -- a rule goes deeper than the label that there is
 unfoldable pub deeper_than : Bytes → Option Bytes → Bool
-deeper_than table none = false
-deeper_than table (some label) = is_deeper table label
+deeper_than table None = false
+deeper_than table (Some label) = is_deeper table label

@@ -1,16 +1,12 @@
 -- Lines of the table that find nothing for a host, as one loop over their bytes passes over them.
-use Rattle.std.specs.Prelude.{◌≡◌, Bool, true, ◌&&◌, ◌||◌, ℕ, suc, ◌+◌, ◌-◌, ◌*◌, ◌≤◌, ◌<◌, length, take, drop, get_or, eqb, leb, ltb, if◌then◌else◌}
+use Rattle.std.specs.Prelude.{◌≡◌, Bool, true, ◌&&◌, ◌||◌, ℕ, suc, ◌+◌, ◌-◌, ◌*◌, ◌≤◌, ◌<◌, length, take, drop, get_or, eqb, leb, if◌then◌else◌, Option, None, Some}
 use Prim.Native.Char.{code}
 use Rattle.ascii.specs.Ascii.{Bytes, take_while, last_of, split_at, is_digit, is_letter, lower_byte}
-use Rattle.ascii.specs.Class.{Classifies}
 use Rattle.hosts.specs.Host.{labels, is_host}
 use Rattle.hosts.specs.code.Place.{Stands}
 use Rattle.suffix.specs.Suffix.{read_lines}
-use Rattle.suffix.specs.code.Pass.{best_of, join_best, in_line, in_content}
+use Rattle.suffix.specs.code.Pass.{sized, best_of, join_best, in_line, in_content}
 use Rattle.suffix.specs.code.Passed.{Passed}
-use Rattle.suffix.specs.declared.Best.TheVariants.{Sizes}
-use Rattle.suffix.specs.declared.skips.Step.{Step}
-use Rattle.suffix.specs.declared.skips.Step.TheVariants.{On, Off}
 use Rattle.suffix.specs.declared.skips.Stop.{Stop}
 use Rattle.suffix.specs.declared.skips.Stop.TheVariants.{Host, Other}
 
@@ -47,23 +43,11 @@ kind_of last b =
 
 -- a table of the kinds for a host
 pub record KindsOf (host kinds : Bytes) : Type 0 where
-  pub long : length kinds ≡ 256
-  pub is : (b : ℕ) → get_or kinds b 9 ≡ kind_of (last_byte host) b
-
--- the kind that a table of 256 gives to b, 9 where b is no byte
-unfoldable pub kind_in : Bytes → ℕ → ℕ
-kind_in kinds b = if ltb b 256 then get_or kinds b 0 else 9
-
--- a byte's kind, and the table of the kinds, where the class table that is lent gives each byte its class
-pub record KindBy (classes : Bytes) (last b r : ℕ) : Type 0 where
-  pub is : Classifies classes → r ≡ kind_of last b
-
-pub record KindsBy (classes host r : Bytes) : Type 0 where
-  pub is : Classifies classes → KindsOf host r
+  pub is : (b : ℕ) → b < 256 → get_or kinds b 0 ≡ kind_of (last_byte host) b
 
 -- a byte of the kind k behind one of the kind p, in a line that begins at start: where the next byte's line begins, and k
-unfoldable pub step_of : ℕ → ℕ → ℕ → ℕ → Step
-step_of k p start next = if leb (p + 3 * k) 24 then On (if eqb k 8 then next else start) k else Off
+unfoldable pub step_of : ℕ → ℕ → ℕ → ℕ → Option (ℕ × ℕ)
+step_of k p start next = if leb (p + 3 * k) 24 then Some ((if eqb k 8 then next else start), k) else None
 
 -- such a byte that may not stand there, at a place: the LF behind a host that is alike in its last byte, or another
 unfoldable pub stop_of : ℕ → ℕ → ℕ → ℕ → Stop
@@ -82,26 +66,9 @@ pub data Stopped (host table : Bytes) (from : ℕ) : Stop → Type 0 where
   at_host : {start to : ℕ} → Idle host table from start → HostLine table start to → Stopped host table from (Host start to)
   at_other : {start : ℕ} → Idle host table from start → start ≤ length table → Stopped host table from (Other start)
 
--- where the line begins at which the pass stopped, and where it ends if it is a host
-unfoldable pub start_of : Stop → ℕ
-start_of (Host start to) = start
-start_of (Other start) = start
-
-unfoldable pub end_of : Stop → ℕ
-end_of (Host start to) = to
-end_of (Other start) = start
-
--- Stopped, where the table of kinds that is lent is the host's; the places are in order by any table
-pub record StoppedBy (kinds host table : Bytes) (from : ℕ) (r : Stop) : Type 0 where
-  pub begun : from ≤ start_of r
-  pub onward : start_of r ≤ end_of r
-  pub inside : end_of r ≤ length table
-  pub is : KindsOf host kinds → Stopped host table from r
-
--- what the pass over such lines is lent: the kinds for the host, the depth d that is known and where the labels begin that are one
--- more, and a place of a table that is not too long
-pub record Passes (kinds host table : Bytes) (d start from : ℕ) : Type 0 where
-  pub kinds_are : KindsOf host kinds
+-- what the pass over such lines is lent: the depth d that is known and where the labels begin that are one more, and a place of a
+-- table that is not too long
+pub record Passes (host table : Bytes) (d start from : ℕ) : Type 0 where
   pub stands : Stands (last_of (suc d) (labels host)) host start
   pub inside : from ≤ length table + 1
   pub short : length table ≤ 1048576
@@ -110,11 +77,11 @@ pub record Passes (kinds host table : Bytes) (d start from : ℕ) : Type 0 where
 pub record Shallow (host table : Bytes) (m d from to : ℕ) : Type 0 where
   pub onward : from ≤ to
   pub inside : to ≤ length table + 1
-  pub best : join_best (Sizes 0 m) (best_of (labels host) (read_lines (split_at (code "\n") (drop from table)))) ≡ join_best (Sizes 0 m) (best_of (labels host) (read_lines (split_at (code "\n") (drop to table))))
+  pub best : join_best (sized 0 m) (best_of (labels host) (read_lines (split_at (code "\n") (drop from table)))) ≡ join_best (sized 0 m) (best_of (labels host) (read_lines (split_at (code "\n") (drop to table))))
   -- which lines these are
   pub passed : Passed host table d from to
 
 -- the same where the pass is lent what it needs
-pub record ShallowBy (kinds host table : Bytes) (m d last from to : ℕ) : Type 0 where
+pub record ShallowBy (host table : Bytes) (m d last from to : ℕ) : Type 0 where
   pub onward : from ≤ to
-  pub is : Passes kinds host table d last from → Shallow host table m d from to
+  pub is : Passes host table d last from → Shallow host table m d from to

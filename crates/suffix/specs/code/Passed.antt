@@ -1,6 +1,5 @@
 -- Lines from one place of a table to another, that go no deeper than some labels of a host.
-use Rattle.std.specs.Prelude.{◌≡◌, List, [], ◌++◌, ℕ, ◌≤◌, length, drop, leb, if◌then◌else◌}
-use Rattle.std.proofs.Math.Option.{some}
+use Rattle.std.specs.Prelude.{◌≡◌, List, [], ◌++◌, ℕ, ◌≤◌, length, drop, leb, if◌then◌else◌, Some}
 use Prim.Native.Char.{code}
 use Rattle.ascii.specs.Ascii.{Bytes, split_at}
 use Rattle.hosts.specs.Host.{labels}
@@ -16,5 +15,5 @@ pub record Passed (host table : Bytes) (d from to : ℕ) : Type 0 where
   pub lines : List Bytes
   pub rules : List Rule
   pub are : lines_from table from ≡ lines ++ lines_from table to
-  pub read : read_lines lines ≡ some rules
+  pub read : read_lines lines ≡ Some rules
   pub depth : deepest (labels host) rules ≤ d

@@ -1,29 +1,27 @@
 -- What the code of the tally answers, in the terms of Tally.
-use Rattle.std.proofs.Math.Option.{Option, none, some}
-use Rattle.std.specs.Prelude.{ℕ, ◌+◌, ◌≤◌}
+use Rattle.std.specs.Prelude.{ℕ, ◌+◌, ◌≤◌, Option, None, Some, Result, Ok, Err}
+use Rattle.refusals.specs.declared.Refusal.{Refusal}
 use Rattle.entries.specs.declared.Cause.{Cause}
 use Rattle.entries.specs.declared.Cause.TheVariants.{TooLong, OtherScheme, NotFacet, OtherLabel}
 use Rattle.tally.specs.Tally.{Counts, Tally, not_tallied, tallied}
 use Rattle.tally.specs.declared.Counts.{Counts as Held}
-use Rattle.tally.specs.declared.Tallied.{Tallied}
-use Rattle.tally.specs.declared.Tallied.TheVariants.{Refused, Counted}
 
 -- ---- counts
 
 unfoldable pub counts_of : Held → Counts
 counts_of c = record { kept = c.kept; too_long = c.long; other_scheme = c.scheme; not_facet = c.facet; other_label = c.label }
 
-unfoldable pub tally_of : Tallied → Tally
-tally_of (Refused x) = not_tallied x
-tally_of (Counted c) = tallied (counts_of c)
+unfoldable pub tally_of : Result Held Refusal → Tally
+tally_of (Err x) = not_tallied x
+tally_of (Ok c) = tallied (counts_of c)
 
 -- one entry: it is kept, or discarded for a cause
 unfoldable pub one : Option Cause → Counts
-one none = record { kept = 1; too_long = 0; other_scheme = 0; not_facet = 0; other_label = 0 }
-one (some TooLong) = record { kept = 0; too_long = 1; other_scheme = 0; not_facet = 0; other_label = 0 }
-one (some OtherScheme) = record { kept = 0; too_long = 0; other_scheme = 1; not_facet = 0; other_label = 0 }
-one (some NotFacet) = record { kept = 0; too_long = 0; other_scheme = 0; not_facet = 1; other_label = 0 }
-one (some OtherLabel) = record { kept = 0; too_long = 0; other_scheme = 0; not_facet = 0; other_label = 1 }
+one None = record { kept = 1; too_long = 0; other_scheme = 0; not_facet = 0; other_label = 0 }
+one (Some TooLong) = record { kept = 0; too_long = 1; other_scheme = 0; not_facet = 0; other_label = 0 }
+one (Some OtherScheme) = record { kept = 0; too_long = 0; other_scheme = 1; not_facet = 0; other_label = 0 }
+one (Some NotFacet) = record { kept = 0; too_long = 0; other_scheme = 0; not_facet = 1; other_label = 0 }
+one (Some OtherLabel) = record { kept = 0; too_long = 0; other_scheme = 0; not_facet = 0; other_label = 1 }
 
 -- count by count
 unfoldable pub plus : Counts → Counts → Counts

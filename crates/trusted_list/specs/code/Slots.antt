@@ -1,6 +1,5 @@
 -- What the one pass over a body holds of the values that it reads, and how that stands to the tree.
-use Rattle.std.specs.Prelude.{◌≡◌, List, [], ◌∷◌, ◌++◌, Bool, true, false, ◌&&◌, not, ℕ, eqb, if◌then◌else◌}
-use Rattle.std.proofs.Math.Option.{Option, none, some}
+use Rattle.std.specs.Prelude.{◌≡◌, List, [], ◌∷◌, ◌++◌, Bool, true, false, ◌&&◌, not, ℕ, eqb, if◌then◌else◌, Option, None, Some, Result, Ok, Err}
 use Rattle.ascii.specs.Ascii.{Bytes, is_none, all, text}
 use Rattle.json_text.specs.Reader.{Read, got, bad, Reader, ◌>>=◌, ◌>>◌, give, one_of, if_next◌then◌else◌}
 use Rattle.json_text.specs.Lexical.{ws, read_string}
@@ -11,22 +10,13 @@ use Rattle.trusted_list.specs.TrustedList.{Version, Listing, values_of, as_strin
 use Rattle.trusted_list.specs.declared.Slot.{Slot}
 use Rattle.trusted_list.specs.declared.Slot.TheVariants.{Absent, Held, Other, Spoiled}
 use Rattle.trusted_list.specs.declared.Two.{Two}
-use Rattle.trusted_list.specs.declared.Found.{Found}
-use Rattle.trusted_list.specs.declared.Found.TheVariants.{Wrong, Value}
-use Rattle.trusted_list.specs.declared.Walked.{Walked}
-use Rattle.trusted_list.specs.declared.Walked.TheVariants.{Stuck, Through}
-use Rattle.trusted_list.specs.declared.Selection.{Selection}
-use Rattle.trusted_list.specs.declared.Selection.TheVariants.{Refused, Ids}
 
 -- ---- the code's answers as readings
 
-unfoldable pub slot_read : Found → Read Slot
-slot_read Wrong = bad
-slot_read (Value j x) = got x j
-
-unfoldable pub two_read : Walked → Read Two
-two_read Stuck = bad
-two_read (Through j x) = got x j
+-- what is held of a value, and the place behind it; or the bytes are no JSON
+unfoldable pub reading : {A : Type 0} → Option (ℕ × A) → Read A
+reading None = bad
+reading (Some p) = got p.1 p.0
 
 -- the text reads to a value just where the code holds something of it, up to the same place, and the two stand in R
 pub data Relates {A B : Type 0} (R : A → B → Type 0) : Read A → Read B → Type 0 where
@@ -36,6 +26,10 @@ pub data Relates {A B : Type 0} (R : A → B → Type 0) : Read A → Read B →
 -- x stands for the elements before a, and y for those and a
 pub record Extends {A B : Type 0} (R : List A → B → Type 0) (x : B) (a : A) (y : B) : Type 0 where
   pub is : (done : List A) → R done x → R (done ++ a ∷ []) y
+
+-- x stands for no element, whatever the text
+pub record Starts {A B : Type 0} (R : Bytes → List A → B → Type 0) (x : B) : Type 0 where
+  pub is : (s : Bytes) → R s [] x
 
 -- ---- members
 
@@ -78,8 +72,8 @@ pub record Names (a b : Bytes) (P Q : Json → Slot → Type 0) (ms : List (Byte
 -- ---- `major`, `minor`
 
 unfoldable pub number_slot : Option ℕ → Slot
-number_slot none = Spoiled
-number_slot (some n) = Held n
+number_slot None = Spoiled
+number_slot (Some n) = Held n
 
 pub record NumberIs (v : Json) (x : Slot) : Type 0 where
   pub is : x ≡ number_slot (read_number16 v)
@@ -88,8 +82,8 @@ pub record NumberIs (v : Json) (x : Slot) : Type 0 where
 
 -- Held 0 where it is the wanted one
 unfoldable pub version_slot : ℕ → ℕ → Option Version → Slot
-version_slot major minor none = Spoiled
-version_slot major minor (some v) = if is_wanted major minor v then Held 0 else Other
+version_slot major minor None = Spoiled
+version_slot major minor (Some v) = if is_wanted major minor v then Held 0 else Other
 
 pub record VersionIs (major minor : ℕ) (v : Json) (x : Slot) : Type 0 where
   pub is : x ≡ version_slot major minor (read_version v)
@@ -110,12 +104,12 @@ unfoldable pub ids_at : Bytes → ℕ → Option (List Bytes)
 ids_at s p = ids_of (value_read (read_at (read_value 13) s p))
   where
     ids_of : Option Json → Option (List Bytes)
-    ids_of none = none
-    ids_of (some v) = read_ids v
+    ids_of None = None
+    ids_of (Some v) = read_ids v
 
 pub data IdsIs (s : Bytes) (v : Json) : Slot → Type 0 where
-  no_ids : read_ids v ≡ none → IdsIs s v Spoiled
-  ids_held : {xs : List Bytes} {p : ℕ} → read_ids v ≡ some xs → ids_at s p ≡ some xs → IdsIs s v (Held p)
+  no_ids : read_ids v ≡ None → IdsIs s v Spoiled
+  ids_held : {xs : List Bytes} {p : ℕ} → read_ids v ≡ Some xs → ids_at s p ≡ Some xs → IdsIs s v (Held p)
 
 unfoldable pub is_string : Json → Bool
 is_string v = not (is_none (as_string v))
@@ -130,9 +124,9 @@ pub record Strings (vs : List Json) (x : Two) : Type 0 where
 -- ---- an object of the list
 
 pub data ListingIs (s : Bytes) (major minor : ℕ) (v : Json) : Slot → Type 0 where
-  no_listing : read_listing v ≡ none → ListingIs s major minor v Spoiled
-  not_wanted : {l : Listing} → read_listing v ≡ some l → is_wanted major minor l.version ≡ false → ListingIs s major minor v Other
-  the_wanted : {l : Listing} {p : ℕ} → read_listing v ≡ some l → is_wanted major minor l.version ≡ true → ids_at s p ≡ some l.ids → ListingIs s major minor v (Held p)
+  no_listing : read_listing v ≡ None → ListingIs s major minor v Spoiled
+  not_wanted : {l : Listing} → read_listing v ≡ Some l → is_wanted major minor l.version ≡ false → ListingIs s major minor v Other
+  the_wanted : {l : Listing} {p : ℕ} → read_listing v ≡ Some l → is_wanted major minor l.version ≡ true → ids_at s p ≡ Some l.ids → ListingIs s major minor v (Held p)
 
 -- of what is held of `version` and `ids`
 unfoldable pub listing_of : Slot → Slot → Slot
@@ -151,9 +145,9 @@ listing_of Spoiled y = Spoiled
 
 -- the place of the selected ids; Other where nothing is selected
 pub data Selects (s : Bytes) (major minor : ℕ) : Option (List Listing) → Slot → Type 0 where
-  misshapen : Selects s major minor none Spoiled
-  nothing : {ls : List Listing} → select major minor ls ≡ none → Selects s major minor (some ls) Other
-  selects : {ls : List Listing} {xs : List Bytes} {p : ℕ} → select major minor ls ≡ some xs → ids_at s p ≡ some xs → Selects s major minor (some ls) (Held p)
+  misshapen : Selects s major minor None Spoiled
+  nothing : {ls : List Listing} → select major minor ls ≡ None → Selects s major minor (Some ls) Other
+  selects : {ls : List Listing} {xs : List Bytes} {p : ℕ} → select major minor ls ≡ Some xs → ids_at s p ≡ Some xs → Selects s major minor (Some ls) (Held p)
 
 pub record Listings (s : Bytes) (major minor : ℕ) (vs : List Json) (x : Two) : Type 0 where
   pub is : Selects s major minor (listings (to_items vs)) x.first
@@ -175,10 +169,10 @@ earlier Spoiled y = Spoiled
 
 -- Absent where there is no `trustedFacets`
 pub data BodyIs (s : Bytes) (major minor : ℕ) (v : Json) : Slot → Type 0 where
-  no_list : read_list v ≡ none → BodyIs s major minor v Absent
+  no_list : read_list v ≡ None → BodyIs s major minor v Absent
   list_is : {x : Slot} → Selects s major minor (read_list v) x → BodyIs s major minor v x
 
 -- the answer for a body: its refusal, or the place of the selected ids
-pub data Answers (major minor : ℕ) (body : Bytes) : Selection → Type 0 where
-  is_refused : {r : Refusal} → list_refusal major minor body ≡ some r → Answers major minor body (Refused r)
-  is_selected : {p : ℕ} → list_refusal major minor body ≡ none → ids_at body p ≡ some (entries major minor body) → Answers major minor body (Ids p)
+pub data Answers (major minor : ℕ) (body : Bytes) : Result ℕ Refusal → Type 0 where
+  is_refused : {r : Refusal} → list_refusal major minor body ≡ Some r → Answers major minor body (Err r)
+  is_selected : {p : ℕ} → list_refusal major minor body ≡ None → ids_at body p ≡ Some (entries major minor body) → Answers major minor body (Ok p)

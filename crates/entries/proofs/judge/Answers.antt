@@ -1,0 +1,23 @@
+use Rattle.entries.proofs.Laws.{laws}
+use Rattle.entries.proofs.judge.Goals as goal
+
+pub returns-then-entry-gt512 : goal.returns-then-entry-gt512
+returns-then-entry-gt512 c = search laws
+
+pub returns-in_default : goal.returns-in_default
+returns-in_default c = search laws
+
+pub returns-then-is_other_label : goal.returns-then-is_other_label
+returns-then-is_other_label c = search laws
+
+pub returns-then-begins_https : goal.returns-then-begins_https
+returns-then-begins_https c = search laws
+
+pub returns-then-is_native : goal.returns-then-is_native
+returns-then-is_native c = search laws
+
+pub returns-then-begins_native : goal.returns-then-begins_native
+returns-then-begins_native c = search laws
+
+pub returns : goal.returns
+returns c = search laws

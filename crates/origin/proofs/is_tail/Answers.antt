@@ -1,0 +1,11 @@
+use Rattle.origin.proofs.Laws.{laws}
+use Rattle.origin.proofs.is_tail.Goals as goal
+
+pub returns-then-t-eq0 : goal.returns-then-t-eq0
+returns-then-t-eq0 c = search laws
+
+pub returns-then-begins_tail : goal.returns-then-begins_tail
+returns-then-begins_tail c = search laws
+
+pub returns-else-begins_tail : goal.returns-else-begins_tail
+returns-else-begins_tail c = search laws

@@ -1,0 +1,8 @@
+use Rattle.trusted_list.proofs.Laws.{levels}
+use Rattle.trusted_list.proofs.ListItemsLevel.item.Goals as goal
+
+pub returns-in_err-j : goal.returns-in_err-j
+returns-in_err-j c = rw c.from_residual.ensures (search levels)
+
+pub returns : goal.returns
+returns c = search levels
