@@ -97,6 +97,7 @@ fn first_match(caller: &[u8], list: &Selected) -> Option<usize>
     };
     let mut at = list.first();
     let mut n = 0;
+    // entry after entry: an iterator would have to copy what is held of each
     while let Some(i) = at {
         let entry = list.read(&mut d.bytes, i);
         d.len = entry.len;
