@@ -1,29 +1,51 @@
--- A run of bytes that pass a test, byte after byte. Assumes nothing.
+-- A run of bytes that pass a test. Assumes nothing.
+use Rattle.std.specs.Prelude.{cond, Option, None, Some, unwrap_or, if◌then◌else◌}
+use Rattle.std.specs.List.{position_or_len}
+use Rattle.std.proofs.lemmas.List.Recursion.{is_position_or_len}
 use mathlib.Core.Path.{◌≡◌, refl, ◌∙◌}
-use mathlib.Core.Bool.{Bool, true, false}
-use Prim.Native.Nat.{ℕ, ◌+◌, ◌<◌, ◌≤◌, max}
+use mathlib.Core.Bool.{Bool, true, false, not}
+use mathlib.Core.List.{[], ◌∷◌}
+use Prim.Native.Nat.{ℕ, ◌+◌, ◌-◌, ◌≤◌}
 use native.Mathlib.Omega.{arith}
-use lib.ListN.{length, drop, get_or}
+use lib.Dec.{ltb}
+use lib.ListN.{length, take, drop, length-drop}
+use lib.Seq.{take_all}
+use borrow.Author.Tests.{ltb-false}
 use Rattle.ascii.specs.Ascii.{Bytes, take_while}
-use Rattle.ascii.specs.code.Runs.{Answers, RunEnds}
-use Rattle.ascii.proofs.Scan.{scan_end, scan_stop, scan_more}
+use Rattle.ascii.proofs.Scan.{while_length, scan_end}
 
--- the bytes before i pass: what is left decides
-pub record RunFrom (post : ℕ → Bool → Type 0) (s : Bytes) (from i : ℕ) : Type 0 where
-  pub most : i ≤ max from (length s)
-  pub is : (f : ℕ → Bool) → Answers post f → i + length (take_while f (drop i s)) ≡ from + length (take_while f (drop from s))
+step_ends : (f : ℕ → Bool) (b : ℕ) (l : Bytes) → length (take_while f (b ∷ l)) ≡ cond (not (f b)) 0 (1 + length (take_while f l))
+unfolding take_while
+step_ends f b l = go (f b)
+  where
+    go : (u : Bool) → length (if u then b ∷ take_while f l else []) ≡ cond (not u) 0 (1 + length (take_while f l))
+    go true = omega arith
+    go false = refl
 
-module _ {post : ℕ → Bool → Type 0} {s : Bytes} {from : ℕ} where
-  pub run_starts : RunFrom post s from from
-  run_starts = record { most = omega arith; is = λ f a. refl }
+none_ends : (f : ℕ → Bool) → length (take_while f []) ≡ 0
+unfolding take_while
+none_ends f = refl
 
-  module _ {i : ℕ} (R : RunFrom post s from i) where
-    pub run_ends : {m : ℕ} → length s ≤ i → from ≤ i → m ≡ max from (length s) → RunEnds post s from m
-    run_ends {m = m} h k e = let z : m ≡ i = omega (arith, R.most) in record { is = λ f a. z ∙ scan_end f s i h (R.is f a) }
+-- the first byte that fails stands where the run ends
+position_ends : (f : ℕ → Bool) (l : Bytes) → length (take_while f l) ≡ position_or_len (λ b. not (f b)) l
+position_ends f = is_position_or_len (λ l. length (take_while f l)) (λ b. not (f b)) (none_ends f) (step_ends f)
 
-    module _ (h : i < length s) (b : get_or s i 0 < 256) {q : Bool} (p : post (get_or s i 0) q) where
-      pub run_stops : q ≡ false → RunEnds post s from i
-      run_stops w = record { is = λ f a. scan_stop f s i h (a (get_or s i 0) q b p) w (R.is f a) }
+-- as far as the first byte that fails, or to the end
+run_found : (f : ℕ → Bool) (l : Bytes) {n : ℕ} {o : Option ℕ} → o ≡ cond (ltb (position_or_len (λ b. not (f b)) l) (length l)) (Some (position_or_len (λ b. not (f b)) l)) None
+    → n ≡ unwrap_or o (length l) → n ≡ length (take_while f l)
+run_found f l {n = n} {o = o} p q = go (ltb (length (take_while f l)) (length l)) refl (p ∙ rw (← position_ends f l))
+  where
+    go : (u : Bool) → ltb (length (take_while f l)) (length l) ≡ u → o ≡ cond u (Some (length (take_while f l))) None → n ≡ length (take_while f l)
+    go true e h = q ∙ rw h
+    go false e h = let z : length l ≡ length (take_while f l) = omega (arith, while_length f l, ltb-false _ _ e) in (q ∙ rw h) ∙ z
 
-      pub run_more : q ≡ true → RunFrom post s from (i + 1)
-      run_more w = record { most = omega (arith, R.most); is = λ f a. scan_more f s i h (a (get_or s i 0) q b p) w (R.is f a) }
+module _ (f : ℕ → Bool) (s : Bytes) (from : ℕ) where
+  pub run_past : length s ≤ from → from ≡ from + length (take_while f (drop from s))
+  run_past h = scan_end f s from h refl
+
+  pub run_rest : take (length s - from) (drop from s) ≡ drop from s
+  run_rest = take_all (length s - from) (drop from s) (simp length-drop (omega arith))
+
+  pub run_ends : {l : Bytes} {n : ℕ} {o : Option ℕ} → l ≡ drop from s → o ≡ cond (ltb (position_or_len (λ b. not (f b)) l) (length l)) (Some (position_or_len (λ b. not (f b)) l)) None
+      → n ≡ unwrap_or o (length l) → from + n ≡ from + length (take_while f (drop from s))
+  run_ends e p q = rw (← e, run_found f _ p q)

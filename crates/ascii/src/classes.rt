@@ -26,6 +26,8 @@ impl Classes {
         Classes { table: TABLE }
     }
 
+    // A number and no enum: document 01 names a table of numbers, in whose order one comparison tells a letter or digit (2), with the
+    // hyphen (3), with the dot (4).
     pub fn class_of(&self, b: u8) -> u8
         ensures { result ≡ class_of b }
     {

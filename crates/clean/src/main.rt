@@ -28,11 +28,8 @@ fn print_refusal(rt: &impl Print, x: Refusal) -> io::Result<()> {
 }
 
 fn print_list(rt: &impl Print, out: &[u8], n: usize) -> io::Result<()> {
-    if n <= out.len() {
-        rt.write_all(&out[0..n])?;
-        rt.write_all(b"\n")?;
-    }
-    Ok(())
+    rt.write_all(ascii::prefix(out, n))?;
+    rt.write_all(b"\n")
 }
 
 fn print_cleaned(rt: &impl Print, appid: &[u8], body: &[u8], table: &[u8]) -> io::Result<()> {

@@ -1,25 +1,26 @@
 -- The length of the ids as they are written, entry after entry.
-use Rattle.std.specs.Prelude.{if◌then◌else◌, Option, None, Some}
+use Rattle.std.specs.Prelude.{if◌then◌else◌, Option, None, Some, unwrap_or}
 use mathlib.Core.Path.{◌≡◌, refl, sym, ap, ◌∙◌}
 use mathlib.Core.Bool.{Bool, true, false}
 use mathlib.Core.List.{List, [], ◌∷◌, ◌++◌, map}
-use Prim.Native.Nat.{ℕ, suc, ◌+◌, ◌*◌, ◌≤◌, ◌<◌}
+use Prim.Native.Nat.{ℕ, ◌+◌, ◌*◌, ◌≤◌, ◌<◌}
 use native.Mathlib.Omega.{arith}
 use mir.Syntax.{w64}
 use mir.Val.{Fits}
 use lib.Dec.{eqb}
-use lib.ListN.{length, take, length-append, length-take}
+use lib.ListN.{length, length-append}
 use borrow.Author.Tests.{ne_eqb}
 use Rattle.ascii.specs.Ascii.{Bytes, text, prefixed, join_with}
 use Rattle.origin.specs.Origin.{normal_form}
 use Rattle.normal_forms.proofs.NormalForms.{normal_short}
-use Rattle.trusted_list.specs.code.Entries.{first_entry}
-use Rattle.entries.specs.code.Reading.{ReadsOf, IdsThere, entries_at, left}
+use Rattle.entries.specs.code.Selecting.{listed}
+use Rattle.entries.specs.code.Walking.{to_come, held_of, Walk, Advances}
 use Rattle.entries.specs.declared.Cause.{Cause}
-use Rattle.entries.specs.declared.Entry.{Entry}
-use Rattle.entries.proofs.Walks.{kept_none, Walk, walk_starts, walk_over, Turn, turn, next_less, kept_held, kept_first, dropped_first}
+use Rattle.entries.specs.declared.selected.Selected.{Selected}
+use Rattle.entries.specs.declared.walk.Entries.{Entries}
+use Rattle.entries.proofs.Walks.{kept_none, list_short, all_gone, Turn, turn, turn_less, held_short, kept_held, kept_first, dropped_first}
 use Rattle.cleaning.specs.Clean.{quoted}
-use Rattle.cleaning.specs.code.Meaning.{names, opening, id_text, ids_text}
+use Rattle.cleaning.specs.code.Meaning.{names, names_of, opening, id_text, ids_text}
 
 -- ---- what is written, id by id
 
@@ -42,12 +43,12 @@ id_length true x = omega (arith, length-append x (text "\""))
 id_length false x = omega (arith, length-append x (text "\""))
 
 -- the normal forms, over one entry
-module _ {appid table body after : Bytes} {turns : ℕ} {es : List Bytes} {r : Entry} (T : Turn appid table body after turns es r) where
-  pub names_more : r.cause ≡ None → names appid table es ≡ normal_form T.entry ∷ names appid table T.rest
+module _ {l : Selected} {w v : Entries} {c : Option Cause} (T : Turn l w v c) where
+  pub names_more : c ≡ None → names l.appid.now l.table.now (to_come w) ≡ normal_form T.entry ∷ names l.appid.now l.table.now (to_come v)
   unfolding names
   names_more g = ap (map normal_form) (kept_first T g)
 
-  pub names_less : {c : Cause} → r.cause ≡ Some c → names appid table es ≡ names appid table T.rest
+  pub names_less : {x : Cause} → c ≡ Some x → names l.appid.now l.table.now (to_come w) ≡ names l.appid.now l.table.now (to_come v)
   unfolding names
   names_less g = ap (map normal_form) (dropped_first T g)
 
@@ -80,66 +81,59 @@ module _ (first : Bool) (e : Bytes) (h : length e ≤ 512) {n : ℕ} (l : n ≡ 
 
 -- ---- the loop
 
--- the entries es are to come, after ids of n bytes
-pub record Sizes (appid table body : Bytes) (goal : ℕ) (held : Bytes) (at : Option ℕ) (n : ℕ) : Type 0 where
-  pub turns : ℕ
-  pub short : length body ≤ 65536
-  pub small : n ≤ 515 * turns
-  pub es : List Bytes
-  pub walk : Walk appid table body held turns at es
-  pub is : n + length (ids_text (eqb n 0) (names appid table es)) ≡ goal
+-- the walk goes on, after ids of n bytes
+pub record Sizes (l : Selected) (goal : ℕ) (w : Entries) (n : ℕ) : Type 0 where
+  pub list_is : w.list.now ≡ l
+  pub small : n + 515 * length (to_come w) ≤ 515 * 65536
+  pub is : n + length (ids_text (eqb n 0) (names l.appid.now l.table.now (to_come w))) ≡ goal
 
-pub size_starts : (appid table body held : Bytes) (ids : ℕ) {at : Option ℕ} → IdsThere body ids → length body ≤ 65536 → length held ≡ 512 → at ≡ first_entry body ids
-    → Sizes appid table body (length (ids_text true (names appid table (entries_at body ids)))) held at 0
-size_starts appid table body held ids T l w e = record { turns = 0; short = l; small = omega arith; es = entries_at body ids; walk = walk_starts appid table body held ids T w e; is = omega arith }
+pub size_starts : {l : Selected} {w : Entries} → Walk l (listed l) w → Sizes l (length (ids_text true (names_of l))) w 0
+size_starts {l} W = record {
+  list_is = W.list_is;
+  small = omega (arith, ap length W.coming_is, list_short l);
+  is = omega (arith, ap (λ (es : List Bytes). length (ids_text true (names l.appid.now l.table.now es))) W.coming_is);
+}
 
-module _ {appid table body : Bytes} {goal : ℕ} {held : Bytes} {at : Option ℕ} {n : ℕ} (S : Sizes appid table body goal held at n) where
-  pub size_over : at ≡ None → n ≡ goal
+module _ {l : Selected} {goal : ℕ} {w : Entries} {n : ℕ} (S : Sizes l goal w n) {v : Entries} {r : Option (Option Cause)} (A : Advances w v r) where
+  pub size_over : r ≡ None → n ≡ goal
   size_over h =
-      let x = rw (walk_over S.walk h, names_none appid table, ids_none (eqb n 0)) at S.is in
+      let x = rw (all_gone A h, names_none l.appid.now l.table.now, ids_none (eqb n 0)) at S.is in
       omega arith
 
-  module _ {i : ℕ} (h : at ≡ Some i) {after : Bytes} {r : Entry} (R : ReadsOf body i appid table held after r) where
-    T : Turn appid table body after S.turns S.es r
-    T = turn S.walk h R
+  module _ {c : Option Cause} (h : r ≡ Some c) where
+    T : Turn l w v c
+    T = turn A S.list_is h
 
-    pub size_less : left body r.next < left body at
-    size_less = next_less S.walk h R
+    pub size_less : length (to_come v) < length (to_come w)
+    size_less = turn_less T
 
-    pub size_skip : {c : Cause} → r.cause ≡ Some c → Sizes appid table body goal after r.next n
+    pub size_skip : {x : Cause} → c ≡ Some x → Sizes l goal v n
     size_skip g = record {
-      turns = suc S.turns;
-      short = S.short;
-      small = omega (arith, S.small);
-      es = T.rest;
-      walk = T.walk;
-      is = ap (λ (l : List Bytes). n + length (ids_text (eqb n 0) l)) (sym (names_less T g)) ∙ S.is;
+      list_is = T.list_is;
+      small = omega (arith, S.small, size_less);
+      is = ap (λ (es : List Bytes). n + length (ids_text (eqb n 0) es)) (sym (names_less T g)) ∙ S.is;
     }
 
-    module _ {p : Bytes} (E : p ≡ take r.len after) where
-      pub keep_short : length p ≤ 512
-      keep_short = rw E (simp length-take (omega (arith, T.walk.room)))
+    module _ {p : Bytes} (E : p ≡ unwrap_or (held_of v) []) (g : c ≡ None) {m : ℕ} (M : m ≡ length (id_text (eqb n 0) (normal_form p))) where
+      few : m ≤ 515
+      few = omega (arith, id_short (eqb n 0) p (held_short v E))
 
-      module _ (g : r.cause ≡ None) {m : ℕ} (M : m ≡ length (id_text (eqb n 0) (normal_form p))) where
-        few : m ≤ 515
-        few = omega (arith, id_short (eqb n 0) p keep_short)
+      pub size_fits : Fits w64 (n + m)
+      size_fits = record { fits = omega (arith, S.small, size_less, few) }
 
-        pub size_fits : Fits w64 (n + m)
-        size_fits = record { fits = omega (arith, S.small, T.some_left, S.short, few) }
+      pub size_keep : Sizes l goal v (n + m)
+      size_keep = record { list_is = T.list_is; small = omega (arith, S.small, size_less, few); is = is }
+        where
+          t : Bytes
+          t = id_text (eqb n 0) (normal_form T.entry)
 
-        pub size_keep : Sizes appid table body goal after r.next (n + m)
-        size_keep = record { turns = suc S.turns; short = S.short; small = omega (arith, S.small, few); es = T.rest; walk = T.walk; is = is }
-          where
-            t : Bytes
-            t = id_text (eqb n 0) (normal_form T.entry)
+          from_here : n + length (t ++ ids_text false (names l.appid.now l.table.now (to_come v))) ≡ goal
+          from_here = ap (λ (x : Bytes). n + length x) (sym (ids_more (eqb n 0) (normal_form T.entry) (names l.appid.now l.table.now (to_come v))) ∙ ap (ids_text (eqb n 0)) (sym (names_more T g))) ∙ S.is
 
-            from_here : n + length (t ++ ids_text false (names appid table T.rest)) ≡ goal
-            from_here = ap (λ (l : Bytes). n + length l) (sym (ids_more (eqb n 0) (normal_form T.entry) (names appid table T.rest)) ∙ ap (ids_text (eqb n 0)) (sym (names_more T g))) ∙ S.is
+          is_long : m ≡ length t
+          is_long = M ∙ ap (λ (x : Bytes). length (id_text (eqb n 0) (normal_form x))) (kept_held T g E)
 
-            is_long : m ≡ length t
-            is_long = M ∙ ap (λ (x : Bytes). length (id_text (eqb n 0) (normal_form x))) (E ∙ kept_held T g)
-
-            is : n + m + length (ids_text (eqb (n + m) 0) (names appid table T.rest)) ≡ goal
-            is =
-                let z : eqb (n + m) 0 ≡ false = ne_eqb (n + m) 0 (λ w. omega (arith, is_long, id_some (eqb n 0) (normal_form T.entry))) in
-                rw z (omega (arith, from_here, is_long, length-append t (ids_text false (names appid table T.rest))))
+          is : n + m + length (ids_text (eqb (n + m) 0) (names l.appid.now l.table.now (to_come v))) ≡ goal
+          is =
+              let z : eqb (n + m) 0 ≡ false = ne_eqb (n + m) 0 (λ w. omega (arith, is_long, id_some (eqb n 0) (normal_form T.entry))) in
+              rw z (omega (arith, from_here, is_long, length-append t (ids_text false (names l.appid.now l.table.now (to_come v)))))

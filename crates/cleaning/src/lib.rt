@@ -9,7 +9,6 @@ ghost use Rattle.cleaning.specs.Clean.{fitting, clean};
 ghost use Rattle.cleaning.specs.code.Meaning.{ListedAs, Prepares, names_of, list_of, opening, id_text, ids_text, IdWrote, list_head, Cleans};
 
 use entries::Selected;
-use json_text::Decoded;
 use refusals::Refusal;
 use trusted_list::Version;
 
@@ -48,19 +47,11 @@ fn id_length(first: bool, entry: &[u8]) -> usize
 fn ids_length(list: &Selected) -> usize
     ensures { result ≡ length (ids_text true (names_of list.now)) }
 {
-    let mut d = Decoded {
-        bytes: [0u8; 512],
-        len: 0,
-    };
-    let mut at = list.first();
+    let mut entries = list.entries();
     let mut n = 0;
-    // entry after entry: an iterator would have to copy what is held of each
-    while let Some(i) = at {
-        let e = list.read(&mut d.bytes, i);
-        d.len = e.len;
-        at = e.next;
-        if e.cause.is_none() {
-            n += id_length(n == 0, ascii::prefix(&d.bytes, d.len));
+    while let Some(cause) = entries.advance() {
+        if cause.is_none() {
+            n += id_length(n == 0, entries.held());
         }
     }
     n
@@ -92,19 +83,11 @@ fn write_ids(list: &Selected, out: &mut [u8], begin: usize) -> usize
     requires { begin + length (ids_text true (names_of list.now)) ≤ length out.old }
     ensures { Wrote (ids_text true (names_of list.now)) begin out.old out.new result }
 {
-    let mut d = Decoded {
-        bytes: [0u8; 512],
-        len: 0,
-    };
-    let mut at = list.first();
+    let mut entries = list.entries();
     let mut to = begin;
-    // entry after entry: an iterator would have to copy what is held of each
-    while let Some(i) = at {
-        let entry = list.read(&mut d.bytes, i);
-        d.len = entry.len;
-        at = entry.next;
-        if entry.cause.is_none() {
-            to = write_id(to == begin, ascii::prefix(&d.bytes, d.len), out, to);
+    while let Some(cause) = entries.advance() {
+        if cause.is_none() {
+            to = write_id(to == begin, entries.held(), out, to);
         }
     }
     to

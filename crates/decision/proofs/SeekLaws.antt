@@ -2,18 +2,19 @@
 use mathlib.Core.Path.{◌≡◌, refl, sym, ap, ◌∙◌}
 use mathlib.Core.Bool.{Bool, true, false}
 use mathlib.Core.List.{List, [], ◌∷◌}
-use Rattle.std.specs.Prelude.{Option, None, Some}
+use Rattle.std.specs.Prelude.{Option, None, Some, unwrap_or}
 use Prim.Native.Nat.{ℕ, suc, ◌+◌, ◌≤◌, ◌<◌}
 use native.Mathlib.Omega.{arith}
-use lib.ListN.{length, take}
+use lib.ListN.{length}
 use Rattle.ascii.specs.Ascii.{Bytes, ◌>>=◌}
 use Rattle.matching.specs.Matching.{facet_matches}
-use Rattle.trusted_list.specs.code.Entries.{first_entry}
 use Rattle.entries.specs.Causes.{kept}
-use Rattle.entries.specs.code.Reading.{ReadsOf, IdsThere, entries_at, left}
+use Rattle.entries.specs.code.Selecting.{listed, kept_of}
+use Rattle.entries.specs.code.Walking.{to_come, held_of, Walk, Advances}
 use Rattle.entries.specs.declared.Cause.{Cause}
-use Rattle.entries.specs.declared.Entry.{Entry}
-use Rattle.entries.proofs.Walks.{kept_none, Walk, walk_starts, walk_over, Turn, turn, next_less, kept_held, kept_first, dropped_first}
+use Rattle.entries.specs.declared.selected.Selected.{Selected}
+use Rattle.entries.specs.declared.walk.Entries.{Entries}
+use Rattle.entries.proofs.Walks.{kept_none, list_short, all_gone, Turn, turn, turn_less, kept_held, kept_first, dropped_first}
 use Rattle.decision.specs.Decide.{first_match}
 
 unfoldable pub plus : ℕ → Option ℕ → Option ℕ
@@ -42,60 +43,54 @@ no_match : (caller appid table : Bytes) → first_match caller (kept appid table
 unfolding first_match
 no_match caller appid table = rw (kept_none appid table)
 
--- the entries es are to come, after n kept ones
-pub record Seeks (caller appid table body : Bytes) (goal : Option ℕ) (held : Bytes) (at : Option ℕ) (n : ℕ) : Type 0 where
-  pub sized : length body ≤ 65536
-  pub turns : ℕ
-  pub small : n ≤ turns
-  pub es : List Bytes
-  pub walk : Walk appid table body held turns at es
-  pub is : plus n (first_match caller (kept appid table es)) ≡ goal
+-- the walk goes on, after n kept entries
+pub record Seeks (caller : Bytes) (l : Selected) (goal : Option ℕ) (w : Entries) (n : ℕ) : Type 0 where
+  pub list_is : w.list.now ≡ l
+  pub few : n + length (to_come w) ≤ 65536
+  pub is : plus n (first_match caller (kept l.appid.now l.table.now (to_come w))) ≡ goal
 
-pub seek_starts : (caller appid table body held : Bytes) (ids : ℕ) {at : Option ℕ} → IdsThere body ids → length body ≤ 65536 → length held ≡ 512 → at ≡ first_entry body ids
-    → Seeks caller appid table body (first_match caller (kept appid table (entries_at body ids))) held at 0
-seek_starts caller appid table body held ids T b w e = record { sized = b; turns = 0; small = omega arith; es = entries_at body ids; walk = walk_starts appid table body held ids T w e; is = plus_zero (first_match caller (kept appid table (entries_at body ids))) }
+pub seek_starts : (caller : Bytes) {l : Selected} {w : Entries} → Walk l (listed l) w → Seeks caller l (first_match caller (kept_of l)) w 0
+seek_starts caller {l} {w} W = record {
+  list_is = W.list_is;
+  few = omega (arith, ap length W.coming_is, list_short l);
+  is = plus_zero (first_match caller (kept l.appid.now l.table.now (to_come w))) ∙ ap (λ (es : List Bytes). first_match caller (kept l.appid.now l.table.now es)) W.coming_is;
+}
 
-module _ {caller appid table body : Bytes} {goal : Option ℕ} {held : Bytes} {at : Option ℕ} {n : ℕ} (S : Seeks caller appid table body goal held at n) where
-  pub seek_over : at ≡ None → None ≡ goal
+module _ {caller : Bytes} {l : Selected} {goal : Option ℕ} {w : Entries} {n : ℕ} (S : Seeks caller l goal w n) {v : Entries} {r : Option (Option Cause)} (A : Advances w v r) where
+  pub seek_over : r ≡ None → None ≡ goal
   unfolding plus
-  seek_over h = rw (walk_over S.walk h, no_match caller appid table) at S.is
+  seek_over h = rw (all_gone A h, no_match caller l.appid.now l.table.now) at S.is
 
-  module _ {i : ℕ} (h : at ≡ Some i) {after : Bytes} {r : Entry} (R : ReadsOf body i appid table held after r) where
-    T : Turn appid table body after S.turns S.es r
-    T = turn S.walk h R
+  module _ {c : Option Cause} (h : r ≡ Some c) where
+    T : Turn l w v c
+    T = turn A S.list_is h
 
-    pub seek_less : left body r.next < left body at
-    seek_less = next_less S.walk h R
+    pub seek_less : length (to_come v) < length (to_come w)
+    seek_less = turn_less T
 
-    pub seek_skip : {c : Cause} → r.cause ≡ Some c → Seeks caller appid table body goal after r.next n
+    pub seek_skip : {x : Cause} → c ≡ Some x → Seeks caller l goal v n
     seek_skip g = record {
-      sized = S.sized;
-      turns = suc S.turns;
-      small = omega (arith, S.small);
-      es = T.rest;
-      walk = T.walk;
-      is = ap (λ (l : List Bytes). plus n (first_match caller l)) (sym (dropped_first T g)) ∙ S.is;
+      list_is = T.list_is;
+      few = omega (arith, S.few, seek_less);
+      is = ap (λ (es : List Bytes). plus n (first_match caller es)) (sym (dropped_first T g)) ∙ S.is;
     }
 
-    module _ (g : r.cause ≡ None) {p : Bytes} (E : p ≡ take r.len after) {m : Bool} (M : m ≡ facet_matches caller p) where
+    module _ (g : c ≡ None) {p : Bytes} (E : p ≡ unwrap_or (held_of v) []) {m : Bool} (M : m ≡ facet_matches caller p) where
       told : facet_matches caller T.entry ≡ m
-      told = sym (M ∙ ap (facet_matches caller) (E ∙ kept_held T g))
+      told = sym (M ∙ ap (facet_matches caller) (kept_held T g E))
 
-      from_here : plus n (first_match caller (T.entry ∷ kept appid table T.rest)) ≡ goal
-      from_here = ap (λ (l : List Bytes). plus n (first_match caller l)) (sym (kept_first T g)) ∙ S.is
+      from_here : plus n (first_match caller (T.entry ∷ kept l.appid.now l.table.now (to_come v))) ≡ goal
+      from_here = ap (λ (es : List Bytes). plus n (first_match caller es)) (sym (kept_first T g)) ∙ S.is
 
       pub seek_found : m ≡ true → Some n ≡ goal
       unfolding plus
       seek_found t =
           let x : n + 0 ≡ n = omega arith in
-          ap Some (sym x) ∙ (rw (first_here caller T.entry (kept appid table T.rest) (told ∙ t)) at from_here)
+          ap Some (sym x) ∙ (rw (first_here caller T.entry (kept l.appid.now l.table.now (to_come v)) (told ∙ t)) at from_here)
 
-      pub seek_keep : m ≡ false → Seeks caller appid table body goal after r.next (n + 1)
+      pub seek_keep : m ≡ false → Seeks caller l goal v (n + 1)
       seek_keep t = record {
-        sized = S.sized;
-        turns = suc S.turns;
-        small = omega (arith, S.small);
-        es = T.rest;
-        walk = T.walk;
-        is = sym (plus_next n (first_match caller (kept appid table T.rest))) ∙ ap (plus n) (sym (first_later caller T.entry (kept appid table T.rest) (told ∙ t))) ∙ from_here;
+        list_is = T.list_is;
+        few = omega (arith, S.few, seek_less);
+        is = sym (plus_next n (first_match caller (kept l.appid.now l.table.now (to_come v)))) ∙ ap (plus n) (sym (first_later caller T.entry (kept l.appid.now l.table.now (to_come v)) (told ∙ t))) ∙ from_here;
       }

@@ -20,6 +20,7 @@ use Rattle.entries.specs.declared.url.Url.{Url}
 use Rattle.entries.proofs.Tellings.{told_bad, told_foreign, told_url, told_its}
 use Rattle.decision.specs.Decide.{by_fetch, before_list}
 use Rattle.decision.specs.code.Meaning.{answer_of, stage_of, settled_so, due_of, Before}
+use Rattle.decision.specs.declared.Answer.{Answer}
 use Rattle.decision.specs.declared.Answer.TheVariants.{Rule1, Rule2, Rule3, Fetch, Refused}
 
 https_some : (s : Bytes) → begins_https s ≡ true → is_empty s ≡ false
@@ -28,15 +29,15 @@ https_some [] h = let z : ◌≡◌ {A = ℕ} 0 1 = cc in absurd (omega arith)
 https_some (b ∷ s) h = refl
 
 module _ (caller appid items lent : Bytes) {f : Bool} (F : f ≡ is_facet caller) where
-  pub stage_stranger : f ≡ false → Before caller appid items lent (Err (Refused Stranger))
-  stage_stranger h = record { is = go; appid_is = settled_so }
+  pub stage_stranger : f ≡ false → {g : Answer} → g ≡ Refused Stranger → Before caller appid items lent (Err g)
+  stage_stranger h e = rw e (record { is = go; appid_is = settled_so })
     where
       go : stage_of (Err (Refused Stranger)) ≡ before_list caller appid items lent
       go = unfold stage_of answer_of before_list in (rw (sym F ∙ h))
 
   module _ (f-is : f ≡ true) {a : Result (Option Url) Refusal} (A : AppIdIs appid a) where
-    pub stage_bad : {x : Refusal} → a ≡ Err x → Before caller appid items lent (Err (Refused x))
-    stage_bad {x} h = rw (← (told_bad A h).1) (record { is = go (told_bad A h).0; appid_is = settled_so })
+    pub stage_bad : {x : Refusal} → a ≡ Err x → {g : Answer} → g ≡ Refused x → Before caller appid items lent (Err g)
+    stage_bad {x} h e = rw (e, ← (told_bad A h).1) (record { is = go (told_bad A h).0; appid_is = settled_so })
       where
         go : is_bad_app_id appid ≡ true → stage_of (Err (Refused BadAppId)) ≡ before_list caller appid items lent
         go b = unfold stage_of answer_of before_list in (rw (sym F ∙ f-is, b))
@@ -58,8 +59,8 @@ module _ (caller appid items lent : Bytes) {f : Bool} (F : f ≡ is_facet caller
             go : stage_of (Err Rule1) ≡ before_list caller appid items lent
             go = unfold stage_of answer_of before_list in (rw (sym F ∙ f-is, T.0, empty_not appid n, T.1, sym S ∙ e))
 
-        pub stage_foreign : s ≡ false → Before caller appid items lent (Err (Refused ForeignAppId))
-        stage_foreign e = record { is = go; appid_is = settled_so }
+        pub stage_foreign : s ≡ false → {g : Answer} → g ≡ Refused ForeignAppId → Before caller appid items lent (Err g)
+        stage_foreign e k = rw k (record { is = go; appid_is = settled_so })
           where
             go : stage_of (Err (Refused ForeignAppId)) ≡ before_list caller appid items lent
             go = unfold stage_of answer_of before_list in (rw (sym F ∙ f-is, T.0, empty_not appid n, T.1, sym S ∙ e))
@@ -79,8 +80,8 @@ module _ (caller appid items lent : Bytes) {f : Bool} (F : f ≡ is_facet caller
         unfolding before_list
         by_record_lem = ap by_fetch e ∙ rw (sym F ∙ f-is, U.0, https_some appid U.1, U.1, sym S ∙ n)
 
-        pub stage_refused : {x : Refusal} → o ≡ Err x → Before caller appid items lent (Err (Refused x))
-        stage_refused {x} g = record { is = go ∙ by_record_lem; appid_is = settled_so }
+        pub stage_refused : {x : Refusal} → o ≡ Err x → {y : Answer} → y ≡ Refused x → Before caller appid items lent (Err y)
+        stage_refused {x} g k = rw k (record { is = go ∙ by_record_lem; appid_is = settled_so })
           where
             go : stage_of (Err (Refused x)) ≡ by_fetch o
             go = unfold stage_of answer_of by_fetch in (rw g)

@@ -1,20 +1,22 @@
 // The decision and the fetch location.
 #![tactic(auto)]
 
-ghost use Rattle.std.specs.Prelude.{◌≡◌};
+ghost use Rattle.std.specs.Prelude.{◌≡◌, Some};
 ghost use Rattle.fetch_record.specs.Record.{last_hop};
 ghost use Rattle.entries.specs.code.Selecting.{kept_of};
 ghost use Rattle.decision.specs.Answer.{answer_number};
 ghost use Rattle.decision.specs.Decide.{first_match, by_list, decide, list_due};
 ghost use Rattle.decision.specs.Location.{fetch_from, fetch_location, source_from, fetch_source};
-ghost use Rattle.decision.specs.code.Meaning.{answer_of, Before, Locates};
+ghost use Rattle.decision.specs.code.Meaning.{answer_of, listed_of, Before, Locates};
+ghost use Rattle.decision.specs.declared.Answer.TheVariants.{Refused};
 
+use ascii::Span;
 use entries::{Selected, Url};
 use fetch_record::{FetchRecord, item};
-use json_text::Decoded;
 use refusals::Refusal;
 use trusted_list::Version;
 
+// An allowance by one of four rules, fetch, or a refusal: document 01's three answers, so no Result.
 #[derive(Clone, Copy)]
 pub enum Answer {
     Rule1,
@@ -41,11 +43,19 @@ impl From<Answer> for u16 {
     }
 }
 
+impl From<Refusal> for Answer {
+    ghost from_gives = { λ x a. a ≡ Refused x };
+
+    fn from(x: Refusal) -> Answer {
+        Answer::Refused(x)
+    }
+}
+
 // The list is due: the AppID, and the response that came.
 #[derive(Clone, Copy)]
 pub struct Due<'a> {
-    url: Url<'a>,
-    response: item::Answer,
+    pub url: Url<'a>,
+    pub response: item::Answer,
 }
 
 // ---- before the list
@@ -59,29 +69,23 @@ pub fn before_list<'a>(
     ensures { Before caller.now appid.now fetched.entry.items.now fetched.entry.text.now result }
 {
     if !origin::is_facet(caller) {
-        return Err(Answer::Refused(Refusal::Stranger));
+        return Err(Answer::from(Refusal::Stranger));
     }
-    match entries::read_appid(appid) {
-        Err(x) => Err(Answer::Refused(x)),
-        Ok(None) => {
-            if appid.len() == 0 {
-                return Err(Answer::Rule2);
-            }
-            if ascii::equal(appid, caller) {
-                return Err(Answer::Rule1);
-            }
-            Err(Answer::Refused(Refusal::ForeignAppId))
+    let Some(url) = entries::read_appid(appid)? else {
+        if appid.len() == 0 {
+            return Err(Answer::Rule2);
         }
-        Ok(Some(url)) => {
-            if matching::same_host(caller, appid) {
-                return Err(Answer::Rule3);
-            }
-            match fetched.fetching() {
-                Err(x) => Err(Answer::Refused(x)),
-                Ok(None) => Err(Answer::Fetch),
-                Ok(Some(response)) => Ok(Due { url, response }),
-            }
+        if ascii::equal(appid, caller) {
+            return Err(Answer::Rule1);
         }
+        return Err(Answer::from(Refusal::ForeignAppId));
+    };
+    if matching::same_host(caller, appid) {
+        return Err(Answer::Rule3);
+    }
+    match fetched.fetching()? {
+        None => Err(Answer::Fetch),
+        Some(response) => Ok(Due { url, response }),
     }
 }
 
@@ -91,19 +95,11 @@ pub fn before_list<'a>(
 fn first_match(caller: &[u8], list: &Selected) -> Option<usize>
     ensures { result ≡ first_match caller.now (kept_of list.now) }
 {
-    let mut d = Decoded {
-        bytes: [0u8; 512],
-        len: 0,
-    };
-    let mut at = list.first();
+    let mut entries = list.entries();
     let mut n = 0;
-    // entry after entry: an iterator would have to copy what is held of each
-    while let Some(i) = at {
-        let entry = list.read(&mut d.bytes, i);
-        d.len = entry.len;
-        at = entry.next;
-        if entry.cause.is_none() {
-            if matching::matches(caller, ascii::prefix(&d.bytes, d.len)) {
+    while let Some(cause) = entries.advance() {
+        if cause.is_none() {
+            if matching::matches(caller, entries.held()) {
                 return Some(n);
             }
             n += 1;
@@ -112,27 +108,30 @@ fn first_match(caller: &[u8], list: &Selected) -> Option<usize>
     None
 }
 
-// Refusals 7 to 13, rule 4 or refusal 14.
-fn by_list(caller: &[u8], due: Due, wanted: Version, body: &[u8], table: &[u8]) -> Answer
-    ensures { answer_of result ≡ by_list caller.now due.entry.url.appid.now wanted.major wanted.minor body.now table.now (list_due due.entry.response) }
+// Refusals 7 to 14, or the place of the kept entry by which rule 4 allows.
+fn by_list(
+    caller: &[u8],
+    due: Due,
+    wanted: Version,
+    body: &[u8],
+    table: &[u8],
+) -> Result<usize, Refusal>
+    ensures { listed_of result ≡ by_list caller.now due.entry.url.appid.now wanted.major wanted.minor body.now table.now (list_due due.entry.response) }
 {
     if due.response.status != 200 {
-        return Answer::Refused(Refusal::NotFetched);
+        return Err(Refusal::NotFetched);
     }
     if !due.response.type_seen {
-        return Answer::Refused(Refusal::WrongType);
+        return Err(Refusal::WrongType);
     }
-    match entries::select(due.url, body, wanted, table) {
-        Err(x) => Answer::Refused(x),
-        Ok(list) => match first_match(caller, &list) {
-            Some(n) => Answer::Rule4(n),
-            None => Answer::Refused(Refusal::NotListed),
-        },
-    }
+    let list = entries::select(due.url, body, wanted, table)?;
+    first_match(caller, &list).ok_or(Refusal::NotListed)
 }
 
 // ---- the decision
 
+// Version, body and table are arguments, as document 01's decision has them: a struct of the three would be made in each exported call
+// and taken apart here, in cleaning and in the tally.
 pub fn decide(
     caller: &[u8],
     appid: &[u8],
@@ -145,52 +144,51 @@ pub fn decide(
 {
     match before_list(caller, appid, fetched) {
         Err(a) => a,
-        Ok(due) => by_list(caller, due, wanted, body, table),
+        Ok(due) => match by_list(caller, due, wanted, body, table) {
+            Ok(n) => Answer::Rule4(n),
+            Err(x) => Answer::from(x),
+        },
     }
 }
 
 // ---- the fetch location
 
-// No part; the AppID; or the part of the text between two places.
+// The AppID, or a part of the text.
 #[derive(Clone, Copy)]
 pub enum Location {
-    Nothing,
     AppId,
-    Text(usize, usize),
+    Text(Span),
 }
 
 fn last_target(fetched: FetchRecord, appid: &[u8]) -> Location
-    ensures { Locates appid.now fetched.entry.text.now (fetch_from appid.now fetched.entry.items.now fetched.entry.text.now) (source_from (last_hop fetched.entry.items.now fetched.entry.text.now)) result }
+    ensures { Locates appid.now fetched.entry.text.now (fetch_from appid.now fetched.entry.items.now fetched.entry.text.now) (source_from (last_hop fetched.entry.items.now fetched.entry.text.now)) (Some result) }
 {
     match fetched.last_location() {
         None => Location::AppId,
-        Some(part) => Location::Text(part.from, part.to),
+        Some(span) => Location::Text(span),
     }
 }
 
-// Where the list is to be fetched from; no part unless the decision is fetch.
-pub fn locate(caller: &[u8], appid: &[u8], fetched: FetchRecord) -> Location
+// Where the list is to be fetched from; none unless the decision is fetch.
+pub fn locate(caller: &[u8], appid: &[u8], fetched: FetchRecord) -> Option<Location>
     ensures { Locates appid.now fetched.entry.text.now (fetch_location caller.now appid.now fetched.entry.items.now fetched.entry.text.now) (fetch_source caller.now appid.now fetched.entry.items.now fetched.entry.text.now) result }
 {
     match before_list(caller, appid, fetched) {
         Err(a) => match a {
-            Answer::Fetch => last_target(fetched, appid),
-            _ => Location::Nothing,
+            Answer::Fetch => Some(last_target(fetched, appid)),
+            _ => None,
         },
-        Ok(_) => Location::Nothing,
+        Ok(_) => None,
     }
 }
 
-// The same as a part of the lent AppID or text, letters as given.
+// The same as a part of the lent AppID or text, letters as given; empty for none.
 pub fn fetch_location<'a>(caller: &[u8], appid: &'a [u8], fetched: FetchRecord<'_, 'a>) -> &'a [u8]
     ensures { result.now ≡ fetch_location caller.now appid.now fetched.entry.items.now fetched.entry.text.now }
 {
     match locate(caller, appid, fetched) {
-        Location::Nothing => &appid[0..0],
-        Location::AppId => appid,
-        Location::Text(a, b) => {
-            let text = fetched.text;
-            &text[a..b]
-        }
+        None => &appid[0..0],
+        Some(Location::AppId) => appid,
+        Some(Location::Text(span)) => span.of(fetched.text),
     }
 }

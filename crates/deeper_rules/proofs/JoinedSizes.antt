@@ -129,21 +129,21 @@ module _ (ls g h : List Bytes) (lg : length ls ≤ length g) (eg : Alike (last_o
 
 -- what is held of one host
 module _ (table home₀ label : Bytes) (d : Deeper) (H : Held table home₀ label d) where
-  S : Spans table label d.from d.to
+  S : Spans table label d.span.from d.span.to
   S = H.spans
 
   span : List Bytes
-  span = split_at 10 (take (d.to - d.from) (drop d.from table))
+  span = split_at 10 (take (d.span.to - d.span.from) (drop d.span.from table))
 
   short : length table ≤ 1048576
   short = table_short table (found_good (labels home₀) (read_table table) (sym H.found))
 
   -- the span is read as a table is
-  span_read : read_table (take (d.to - d.from) (drop d.from table)) ≡ read_lines span
+  span_read : read_table (take (d.span.to - d.span.from) (drop d.span.from table)) ≡ read_lines span
   unfolding span
   span_read =
-      sym (table_read (take (d.to - d.from) (drop d.from table))
-      (omega (arith, length-take (d.to - d.from) (drop d.from table), length-drop d.from table, short)))
+      sym (table_read (take (d.span.to - d.span.from) (drop d.span.from table))
+      (omega (arith, length-take (d.span.to - d.span.from) (drop d.span.from table), length-drop d.span.from table, short)))
 
   -- before the span, in it and behind it
   cut : (hl : List Bytes) → best_of hl (read_table table) ≡ join_best (best_of hl (read_lines S.before)) (join_best (best_of hl (read_lines span)) (best_of hl (read_lines S.behind)))
@@ -216,7 +216,7 @@ module _ (table label : Bytes) (d : Deeper) (h : Bytes) {b : Bool} (e : b ≡ en
 
 -- its premises from the last to the first, so that each fixes the next one's unknowns
 pub tells_by_size : {table label h s : Bytes} {d : Deeper} {f j : Sizes} {b : Bool} {n k : ℕ} → n ≡ size_of j.exception j.most → k ≡ size_of d.sizes.exception d.sizes.most → j ≡ joined d.sizes f
-    → FindsTable h s f → s ≡ take (d.to - d.from) (drop d.from table) → b ≡ true → b ≡ ends_at_label label h → Tells table label d h (eqb n k)
+    → FindsTable h s f → s ≡ take (d.span.to - d.span.from) (drop d.span.from table) → b ≡ true → b ≡ ends_at_label label h → Tells table label d h (eqb n k)
 tells_by_size {table} {label} {h} {s} {d} {f} i w u F p c e =
     record { is = λ home₀ H a. rw (w, i, u) (sym (by_size table home₀ label H.label_is h a (size home₀ H) (home_found table home₀ label d H) (sym e ∙ c))) }
   where

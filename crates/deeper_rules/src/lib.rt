@@ -51,7 +51,7 @@ pub fn has_label(host: &[u8], label: &[u8], held: &Deeper, table: &[u8]) -> bool
     ensures { Tells table.now label.now held.now host.now result }
 {
     if hosts::ends_at_label(host, label) {
-        let span = table_finding(host, ascii::part(table, held.from, held.to));
+        let span = table_finding(host, held.span.of(table));
         let joined = held.sizes.join(span);
         return joined.suffix_size() == held.sizes.suffix_size();
     }

@@ -100,10 +100,10 @@ drop_taken (suc i) (suc n) [] = sym (take-nil (suc n - suc i))
 drop_taken (suc i) (suc n) (b ∷ l) = let f : suc n - suc i ≡ n - i = omega arith in rw f (drop_taken i n l)
 
 module _ (s : Bytes) (end : ℕ) (table : Bytes) {host : Bytes} {w : Option HostOwner} (O : OwnerIs table host w) where
-  pub owner_bad : w ≡ None → OwnedBy s table None
+  pub owner_bad : w ≡ None → OwnedBy s end table None
   owner_bad e = go O e
     where
-      go : {w : Option HostOwner} → OwnerIs table host w → w ≡ None → OwnedBy s table None
+      go : {w : Option HostOwner} → OwnerIs table host w → w ≡ None → OwnedBy s end table None
       go (no_table t) e = bad_table t
       go (owner_is t L) e = let z : ◌≡◌ {A = ℕ} 0 1 = cc in absurd (omega arith)
 
@@ -122,13 +122,13 @@ module _ (s : Bytes) (end : ℕ) (table : Bytes) {host : Bytes} {w : Option Host
     pub owner_fits : {k : ℕ} → host ≡ take (end - k) (drop k s) → 8 ≤ k → length s < 2 ^ 64 → Fits w64 (8 + x.start)
     owner_fits {k} H m l = record { fits = omega (arith, found_label.label.place.inside, ap length H, length-take (end - k) (drop k s), length-drop k s) }
 
-    pub owner_label : HostEnds s end → host ≡ take (end - 8) (drop 8 s) → OwnedBy s table (Some (record { start = 8 + x.start; end = end; deeper = x.deeper }))
-    owner_label E H =
+    pub owner_label : host ≡ take (end - 8) (drop 8 s) → OwnedBy s end table (Some (record { label = record { from = 8 + x.start; to = end }; deeper = x.deeper }))
+    owner_label H =
         let L = found_label.label in
-        owned {o = record { start = 8 + x.start; end = end; deeper = x.deeper }} found_label.good (record {
+        owned {o = record { label = record { from = 8 + x.start; to = end }; deeper = x.deeper }} found_label.good (λ E. record {
           is = record {
-            label_is = behind ∙ L.place.is ∙ ap or_empty own;
-            deeper_is = L.present_is ∙ ap (deeper_than table) own;
+            label_is = behind ∙ L.place.is ∙ ap or_empty (own E);
+            deeper_is = L.present_is ∙ ap (deeper_than table) (own E);
             held = λ {d} t. record { host = host; is = rw behind (L.held d t) };
           };
         })
@@ -145,8 +145,8 @@ module _ (s : Bytes) (end : ℕ) (table : Bytes) {host : Bytes} {w : Option Host
         of_host None e = let z : ◌≡◌ {A = ℕ} 0 1 = cc in absurd (omega arith)
         of_host (Some u) e = let z : u.host ≡ part s 8 end = cc in ap (private_label table) (sym (z ∙ at_host))
 
-        own : private_label table host ≡ app_label table s
-        own = unfold app_label in (of_host (https_url s) E.is)
+        own : HostEnds s end → private_label table host ≡ app_label table s
+        own E = unfold app_label in (of_host (https_url s) E.is)
 
 -- ---- cause 4 of one host
 

@@ -16,6 +16,7 @@ use Rattle.trusted_list.specs.code.Slots.{ids_at, Answers, is_refused, is_select
 use Rattle.trusted_list.proofs.Acceptance.{accepted_selects}
 use Rattle.entries.specs.AppId.{is_bad_app_id}
 use Rattle.entries.specs.code.Owner.{AppIdIs, is_bad, is_foreign, is_url, Owned, OwnedBy, bad_table, owned}
+use Rattle.entries.specs.code.HostEnds.{HostEnds}
 use Rattle.entries.specs.code.Reading.{IdsThere, entries_at}
 use Rattle.entries.specs.code.Selecting.{listed, Selects, unselected, no_table, selects}
 use Rattle.entries.specs.declared.url.Url.{Url}
@@ -94,26 +95,26 @@ module _ {major minor : ℕ} {body : Bytes} {q : Result ℕ Refusal} (S : Answer
     pub select_short : length body ≤ 65536
     select_short = (accepted_selects major minor body accepts).short
 
-    module _ {w : Option Owner} (O : OwnedBy appid table w) where
+    module _ {end : ℕ} {w : Option Owner} (O : OwnedBy appid end table w) where
       pub select_no_table : w ≡ None → Selects appid major minor body table (Err BadTable)
       select_no_table h = no_table accepts (go O h)
         where
-          go : {w : Option Owner} → OwnedBy appid table w → w ≡ None → read_table table ≡ None
+          go : {w : Option Owner} → OwnedBy appid end table w → w ≡ None → read_table table ≡ None
           go (bad_table t) h = t
           go (owned a b) h = let z : ◌≡◌ {A = ℕ} 0 1 = cc in absurd (omega arith)
 
       module _ {o : Owner} (e : w ≡ Some o) where
-        pub select_owned : ∥ Owned appid table o ∥₁
-        select_owned = ∣ go O e ∣₁
+        pub select_owned : HostEnds appid end → ∥ Owned appid table o ∥₁
+        select_owned E = ∣ go O e E ∣₁
           where
-            go : {w : Option Owner} → OwnedBy appid table w → w ≡ Some o → Owned appid table o
-            go (bad_table t) h = let z : ◌≡◌ {A = ℕ} 0 1 = cc in absurd (omega arith)
-            go (owned {o = i} a b) h = let x : i ≡ o = cc in rw x at b
+            go : {w : Option Owner} → OwnedBy appid end table w → w ≡ Some o → HostEnds appid end → Owned appid table o
+            go (bad_table t) h E = let z : ◌≡◌ {A = ℕ} 0 1 = cc in absurd (omega arith)
+            go (owned {o = i} a b) h E = let x : i ≡ o = cc in rw x at (b E)
 
         good_table : is_none (read_table table) ≡ false
         good_table = go O e
           where
-            go : {w : Option Owner} → OwnedBy appid table w → w ≡ Some o → is_none (read_table table) ≡ false
+            go : {w : Option Owner} → OwnedBy appid end table w → w ≡ Some o → is_none (read_table table) ≡ false
             go (bad_table t) h = let z : ◌≡◌ {A = ℕ} 0 1 = cc in absurd (omega arith)
             go (owned a b) h = a
 

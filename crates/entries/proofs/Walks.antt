@@ -1,25 +1,31 @@
--- The walk over the entries: what every consumer's loop knows, one turn on.
-use Rattle.std.specs.Prelude.{if◌then◌else◌, slice_get, Option, None, Some, is_some, not}
+-- The walk over the entries: what each turn of a consumer's loop knows.
+use Rattle.std.specs.Prelude.{slice_get, Option, None, Some, is_some, not, unwrap_or}
 use mathlib.Core.Path.{◌≡◌, refl, sym, ap, ◌∙◌}
 use mathlib.Core.Bool.{Bool, true, false}
 use mathlib.Core.List.{List, [], ◌∷◌}
-use Prim.Native.Nat.{ℕ, suc, ◌+◌, ◌-◌, ◌≤◌, ◌<◌}
+use Prim.Native.Nat.{ℕ, zero, suc, ◌+◌, ◌≤◌, ◌<◌}
 use native.Mathlib.Omega.{arith}
-use lib.Dec.{ltb}
-use lib.ListN.{length, take}
+use lib.ListN.{length}
 use borrow.Author.Tests.{ltb-false, le-leb}
-use Rattle.ascii.specs.Ascii.{Bytes, among, filter_by, text}
+use Rattle.ascii.specs.Ascii.{Bytes, among, filter_by, text, ◌>>=◌}
 use Rattle.json_text.specs.Reader.{Read, got, bad, satisfy}
 use Rattle.json_text.specs.Lexical.{read_string}
-use Rattle.json_text.specs.code.Places.{read_at, fit, held, content}
+use Rattle.json_text.specs.code.Places.{read_at, fit}
+use Rattle.json_text.specs.code.Held.{content}
+use Rattle.json_text.specs.declared.decoding.Decoded.{Decoded}
+use Rattle.json_text.proofs.Holding.{content_short}
 use Rattle.json_text.proofs.Steps.{wide, peeks, here as seen_here, in_text, one_yes, one_no, no_fall, found}
+use Rattle.json_text.proofs.TakenApart.{bound}
 use Rattle.trusted_list.specs.code.Entries.{to_next, first_entry, next_entry, Coming, over, comes}
-use Rattle.trusted_list.proofs.MemberLaws.{bound}
 use Rattle.trusted_list.proofs.EntryLaws.{entries_come}
 use Rattle.entries.specs.Causes.{cause, kept}
-use Rattle.entries.specs.code.Reading.{EntryIs, ReadsOf, IdsThere, entries_at, left}
+use Rattle.entries.specs.code.Reading.{EntryIs, ReadsOf, IdsThere, entries_at, left, string_then, strings_from, entries_from, Stands}
+use Rattle.entries.specs.code.Selecting.{listed}
+use Rattle.entries.specs.code.Walking.{to_come, held_of, Walk, Advances, at_end, advanced}
 use Rattle.entries.specs.declared.Cause.{Cause}
 use Rattle.entries.specs.declared.Entry.{Entry}
+use Rattle.entries.specs.declared.selected.Selected.{Selected}
+use Rattle.entries.specs.declared.walk.Entries.{Entries}
 use Rattle.entries.proofs.KeptTests.{is_kept, kept_passes}
 
 -- ---- places
@@ -101,80 +107,162 @@ pub kept_none : (appid table : Bytes) → kept appid table [] ≡ []
 unfolding kept filter_by
 kept_none appid table = refl
 
--- ---- the walk
+-- ---- the strings from a place on
 
--- the entries es are to come, after so many turns; the array that holds one of them has its size
-pub record Walk (appid table body held : Bytes) (turns : ℕ) (at : Option ℕ) (es : List Bytes) : Type 0 where
-  pub room : length held ≡ 512
-  pub few : turns + left body at ≤ suc (length body)
-  pub coming : Coming body at es
+left_less : (body : Bytes) (i : ℕ) {j : ℕ} {e : Bytes} → read_at read_string body i ≡ got e j → left body (next_entry body j) < left body (Some i)
+left_less body i {j} r = go (next_entry body j) refl
+  where
+    go : (next : Option ℕ) → next ≡ next_entry body j → left body next < left body (Some i)
+    go None e = unfold left in omega (arith, (string_spans body i r).inside)
+    go (Some k) e = unfold left in omega (arith, (string_spans body i r).ahead, (string_spans body i r).inside, next_ahead body j e refl)
 
-left_small : (body : Bytes) (at : Option ℕ) → left body at ≤ suc (length body)
+left_some : (body : Bytes) (i : ℕ) → 1 ≤ left body (Some i)
 unfolding left
-left_small body None = omega arith
-left_small body (Some i) = omega arith
+left_some body i = omega arith
 
-pub walk_starts : (appid table body held : Bytes) (ids : ℕ) {at : Option ℕ} → IdsThere body ids → length held ≡ 512 → at ≡ first_entry body ids
-    → Walk appid table body held 0 at (entries_at body ids)
-walk_starts appid table body held ids {at} T w e = record { room = w; few = omega (arith, left_small body at); coming = rw e (entries_come body ids T.is) }
+-- the strings that come are those that stand there
+come_stand : {body : Bytes} (q : Option ℕ) {es : List Bytes} (n : ℕ) → Coming body q es → left body q ≤ n → strings_from n body q ≡ Some es
+unfolding strings_from string_then
+come_stand None zero over l = refl
+come_stand None (suc n) over l = refl
+come_stand {body} (Some i) zero (comes r c) l = absurd (omega (arith, left_some body i))
+come_stand {body} (Some i) (suc n) (comes {j} r c) l = rw (r, come_stand (next_entry body j) n c (omega (arith, left_less body i r)))
 
--- a turn over an entry: what it was, and the walk behind it
-pub record Turn (appid table body after : Bytes) (turns : ℕ) (es : List Bytes) (r : Entry) : Type 0 where
-  pub entry : Bytes
-  pub rest : List Bytes
-  pub whole : es ≡ entry ∷ rest
-  pub content_is : content (record { bytes = after; len = r.len }) ≡ fit entry
-  pub cause_is : r.cause ≡ cause appid table entry
-  pub walk : Walk appid table body after (suc turns) r.next rest
-  pub some_left : turns < length body
+first_come : (body : Bytes) (i : ℕ) {es : List Bytes} (behind : ℕ → Option (List Bytes)) → ((j : ℕ) (xs : List Bytes) → behind j ≡ Some xs → Coming body (next_entry body j) xs)
+    → string_then (read_at read_string body i) behind ≡ Some es → Coming body (Some i) es
+first_come body i {es} behind later h = go (read_at read_string body i) refl h
+  where
+    rest : (x : Bytes) (j : ℕ) → read_at read_string body i ≡ got x j → (o : Option (List Bytes)) → behind j ≡ o → (o >>= λ xs. Some (x ∷ xs)) ≡ Some es → Coming body (Some i) es
+    rest x j e None f h = let z : ◌≡◌ {A = ℕ} 0 1 = cc in absurd (omega arith)
+    rest x j e (Some xs) f h = let z : x ∷ xs ≡ es = cc in rw (← z) (comes e (later j xs f))
 
-module _ {appid table body held : Bytes} {turns : ℕ} {at : Option ℕ} {es : List Bytes} (W : Walk appid table body held turns at es) where
-  pub walk_over : at ≡ None → es ≡ []
-  walk_over h = nothing_comes W.coming h
+    go : (r : Read Bytes) → read_at read_string body i ≡ r → string_then r behind ≡ Some es → Coming body (Some i) es
+    go bad e = unfold string_then in (λ h. let z : ◌≡◌ {A = ℕ} 0 1 = cc in absurd (omega arith))
+    go (got x j) e = unfold string_then in (λ h. rest x j e (behind j) refl h)
 
-  module _ {i : ℕ} (h : at ≡ Some i) where
-    C : Comes body i es
-    C = comes_at W.coming h
+-- and the other way
+stand_come : (n : ℕ) (body : Bytes) (q : Option ℕ) {es : List Bytes} → strings_from n body q ≡ Some es → Coming body q es
+unfolding strings_from
+stand_come zero body None {es} h = let z : ◌≡◌ {A = List Bytes} [] es = cc in rw (← z) over
+stand_come (suc n) body None {es} h = let z : ◌≡◌ {A = List Bytes} [] es = cc in rw (← z) over
+stand_come zero body (Some i) h = let z : ◌≡◌ {A = ℕ} 0 1 = cc in absurd (omega arith)
+stand_come (suc n) body (Some i) h = first_come body i (λ j. strings_from n body (next_entry body j)) (λ j xs f. stand_come n body (next_entry body j) {es = xs} f) h
 
-    S : Spans body i C.end
-    S = string_spans body i C.read
+module _ {body : Bytes} {q : Option ℕ} {es : List Bytes} (C : Coming body q es) where
+  from_is : entries_from body q ≡ es
+  unfolding entries_from
+  from_is = rw (come_stand q (left body q) C (omega arith))
 
-    falls : {next : Option ℕ} → next ≡ next_entry body C.end → left body next < left body at
-    falls {next} e = rw h (go next e)
+  stands : Stands body q
+  stands = record { is = come_stand q (left body q) C (omega arith) ∙ ap Some (sym from_is) }
+
+-- ---- the code's steps
+
+stand_first : {body : Bytes} {ids : ℕ} {q : Option ℕ} → IdsThere body ids → q ≡ first_entry body ids → Coming body q (entries_at body ids)
+stand_first {body} {ids} T e = rw e (entries_come body ids T.is)
+
+pub walk_stands : {body : Bytes} {ids : ℕ} {q : Option ℕ} → IdsThere body ids → q ≡ first_entry body ids → Stands body q
+walk_stands T e = stands (stand_first T e)
+
+pub walk_starts : (l : Selected) (w : Entries) → w.list.now ≡ l → w.next ≡ first_entry l.body.now l.ids → Walk l (listed l) w
+walk_starts l w a e = record { list_is = a; coming_is = coming }
+  where
+    coming : to_come w ≡ listed l
+    coming = unfold to_come in (ap (λ (m : Selected). entries_from m.body.now w.next) a ∙ from_is (stand_first l.there e))
+
+-- no string stands behind the last
+pub walk_over : (body : Bytes) → Stands body None
+walk_over body = stands over
+
+coming_on : (w : Entries) → Coming w.list.now.body.now w.next (to_come w)
+coming_on w = unfold to_come in (stand_come (left w.list.now.body.now w.next) w.list.now.body.now w.next w.stands.is)
+
+pub walk_ends : (w : Entries) → w.next ≡ None → Advances w w None
+walk_ends w h =
+    let e = nothing_comes (coming_on w) h in
+    at_end e (record { list_is = refl; coming_is = e })
+
+module _ (w : Entries) {i : ℕ} (h : w.next ≡ Some i) where
+  C : Comes w.list.now.body.now i (to_come w)
+  C = comes_at (coming_on w) h
+
+  module _ {d : Decoded} {r : Entry} (R : ReadsOf w.list.now.body.now i w.list.now.appid.now w.list.now.table.now d r) where
+    E : EntryIs w.list.now.appid.now w.list.now.table.now w.list.now.body.now C.entry C.end d r
+    E = R.is C.entry C.end C.read
+
+    behind : Coming w.list.now.body.now r.next C.rest
+    behind = go E.next_is C.later
       where
-        go : (next : Option ℕ) → next ≡ next_entry body C.end → left body next < left body (Some i)
-        go None e = unfold left in omega arith
-        go (Some k) e = unfold left in omega (arith, S.ahead, S.inside, next_ahead body C.end e refl)
+        go : {q k : Option ℕ} {es : List Bytes} → q ≡ k → Coming w.list.now.body.now k es → Coming w.list.now.body.now q es
+        go e c = rw e c
 
-    module _ {after : Bytes} {r : Entry} (R : ReadsOf body i appid table held after r) where
-      here : EntryIs appid table body C.entry C.end after r
-      here = R.is W.room C.entry C.end C.read
+    pub walk_stays : Stands w.list.now.body.now r.next
+    walk_stays = stands behind
 
-      pub next_less : left body r.next < left body at
-      next_less = falls here.next_is
+    pub walk_advances : (v : Entries) → v.list.now ≡ w.list.now → v.last ≡ d → v.next ≡ r.next → Advances w v (Some r.cause)
+    walk_advances v l m n = advanced C.whole (record { list_is = l; coming_is = coming }) (ap content m ∙ E.content_is) E.cause_is
+      where
+        coming : to_come v ≡ C.rest
+        coming = unfold to_come in (ap (λ (x : Selected). entries_from x.body.now v.next) l ∙ ap (entries_from w.list.now.body.now) n ∙ from_is behind)
 
-      pub turn : Turn appid table body after turns es r
-      turn =
-          let l : left body at ≡ suc (length body - i) = rw h (unfold_left i) in
-          record {
-            entry = C.entry;
-            rest = C.rest;
-            whole = C.whole;
-            content_is = here.content_is;
-            cause_is = here.cause_is;
-            walk = record { room = R.size C.entry C.end C.read ∙ W.room; few = omega (arith, W.few, next_less); coming = rw here.next_is C.later };
-            some_left = omega (arith, W.few, S.inside);
-          }
-        where
-          unfold_left : (i : ℕ) → left body (Some i) ≡ suc (length body - i)
-          unfold_left i = unfold left in refl
+-- ---- what a consumer takes from it
 
--- the end of the list is nearer than any place
-pub end_less : (body : Bytes) {at : Option ℕ} {i : ℕ} → at ≡ Some i → left body None < left body at
-unfolding left
-end_less body h = rw h (omega arith)
+-- a turn over an entry: what it was, and that the others are to come
+pub record Turn (l : Selected) (w v : Entries) (c : Option Cause) : Type 0 where
+  pub entry : Bytes
+  pub whole : to_come w ≡ entry ∷ to_come v
+  pub content_is : held_of v ≡ fit entry
+  pub cause_is : c ≡ cause l.appid.now l.table.now entry
+  pub list_is : v.list.now ≡ l
 
--- ---- what a turn tells of its entry
+module _ {w v : Entries} {r : Option (Option Cause)} (A : Advances w v r) where
+  pub all_gone : r ≡ None → to_come w ≡ []
+  all_gone h = go A h
+    where
+      go : {r : Option (Option Cause)} → Advances w v r → r ≡ None → to_come w ≡ []
+      go (at_end e W) h = e
+      go (advanced a b c d) h = let z : ◌≡◌ {A = ℕ} 0 1 = cc in absurd (omega arith)
+
+  pub turn : {l : Selected} → w.list.now ≡ l → {c : Option Cause} → r ≡ Some c → Turn l w v c
+  turn {l} m {c} h = go A h
+    where
+      told : {e : Bytes} {es : List Bytes} {b : Option Cause} → to_come w ≡ e ∷ es → Walk w.list.now es v → held_of v ≡ fit e
+          → b ≡ cause w.list.now.appid.now w.list.now.table.now e → b ≡ c → Turn l w v c
+      told {e} f W g k z = record {
+        entry = e;
+        whole = f ∙ ap (λ (xs : List Bytes). e ∷ xs) (sym W.coming_is);
+        content_is = g;
+        cause_is = sym z ∙ k ∙ ap (λ (x : Selected). cause x.appid.now x.table.now e) m;
+        list_is = W.list_is ∙ m;
+      }
+
+      go : {r : Option (Option Cause)} → Advances w v r → r ≡ Some c → Turn l w v c
+      go (at_end e W) h = let z : ◌≡◌ {A = ℕ} 0 1 = cc in absurd (omega arith)
+      go (advanced {c = b} f W g k) h = let z : b ≡ c = cc in told f W g k z
+
+-- the walk never goes back: at a wrong turn too, the measure's fact is found
+pub less_on : {u v : Entries} (w : Entries) {r : Option (Option Cause)} → Advances v u r → length (to_come v) < length (to_come w) → length (to_come u) < length (to_come w)
+less_on {u} {v} w A h = omega (arith, h, go A)
+  where
+    go : {r : Option (Option Cause)} → Advances v u r → length (to_come u) ≤ length (to_come v)
+    go (at_end e W) = omega (arith, ap length W.coming_is)
+    go (advanced f W g k) = omega (arith, ap length f, ap length W.coming_is)
+
+-- a list has fewer entries than its body has bytes
+come_short : {body : Bytes} (q : Option ℕ) {es : List Bytes} → Coming body q es → (i : ℕ) → q ≡ Some i → length es + i ≤ length body
+come_short None over i h = let z : ◌≡◌ {A = ℕ} 0 1 = cc in absurd (omega arith)
+come_short {body} (Some m) (comes {j} {es} r c) i h = let z : m ≡ i = cc in go z (next_entry body j) refl (come_short (next_entry body j) c)
+  where
+    go : m ≡ i → (q : Option ℕ) → q ≡ next_entry body j → ((k : ℕ) → next_entry body j ≡ Some k → length es + k ≤ length body) → suc (length es) + i ≤ length body
+    go z None e f = omega (arith, (string_spans body m r).inside, ap length (nothing_comes c (sym e)))
+    go z (Some k) e f = omega (arith, f k (sym e), (string_spans body m r).ahead, next_ahead body j e refl)
+
+pub list_short : (l : Selected) → length (listed l) ≤ 65536
+list_short l = go (first_entry l.body.now l.ids) refl (stand_first l.there refl)
+  where
+    go : (q : Option ℕ) → q ≡ first_entry l.body.now l.ids → Coming l.body.now (first_entry l.body.now l.ids) (listed l) → length (listed l) ≤ 65536
+    go None e C = omega (arith, ap length (nothing_comes C (sym e)))
+    go (Some i) e C = omega (arith, come_short (first_entry l.body.now l.ids) C i (sym e), l.short)
 
 -- no cause, as the code tests it
 pub none_is : {o : Option Cause} {q : Bool} → is_some o ≡ not q → q ≡ true → o ≡ None
@@ -184,30 +272,30 @@ none_is {o} e h = go o (e ∙ ap not h)
     go None f = refl
     go (Some c) f = let z : ◌≡◌ {A = ℕ} 0 1 = cc in absurd (omega arith)
 
-module _ {appid table body after : Bytes} {turns : ℕ} {es : List Bytes} {r : Entry} (T : Turn appid table body after turns es r) where
+module _ {l : Selected} {w v : Entries} {c : Option Cause} (T : Turn l w v c) where
+  pub turn_less : length (to_come v) < length (to_come w)
+  turn_less = omega (arith, ap length T.whole)
+
   -- it is kept, and this is it
-  module _ (h : r.cause ≡ None) where
-    pub kept_none_fits : cause appid table T.entry ≡ None
+  module _ (h : c ≡ None) where
+    pub kept_none_fits : cause l.appid.now l.table.now T.entry ≡ None
     kept_none_fits = sym T.cause_is ∙ h
 
-    pub kept_held : take r.len after ≡ T.entry
-    kept_held = go (fit T.entry) refl T.content_is
+    pub kept_held : {p : Bytes} → p ≡ unwrap_or (held_of v) [] → p ≡ T.entry
+    kept_held e = e ∙ ap (λ (x : Option Bytes). unwrap_or x []) (T.content_is ∙ is_some)
       where
-        small : cause appid table T.entry ≡ None → length T.entry ≤ 512
-        small e = ltb-false 512 (length T.entry) (kept_passes appid table T.entry (unfold is_kept in (rw e))).short
+        small : cause l.appid.now l.table.now T.entry ≡ None → length T.entry ≤ 512
+        small e = ltb-false 512 (length T.entry) (kept_passes l.appid.now l.table.now T.entry (unfold is_kept in (rw e))).short
 
         is_some : fit T.entry ≡ Some T.entry
         is_some = unfold fit in (rw (le-leb (length T.entry) 512 (small kept_none_fits)))
 
-        taken : (t : Bool) (x : Bytes) → (if t then None else Some (take r.len after)) ≡ Some x → take r.len after ≡ x
-        taken true x e = let z : ◌≡◌ {A = ℕ} 0 1 = cc in absurd (omega arith)
-        taken false x e = cc
+    pub kept_first : kept l.appid.now l.table.now (to_come w) ≡ T.entry ∷ kept l.appid.now l.table.now (to_come v)
+    kept_first = ap (kept l.appid.now l.table.now) T.whole ∙ kept_more l.appid.now l.table.now T.entry (to_come v) kept_none_fits
 
-        go : (f : Option Bytes) → fit T.entry ≡ f → content (record { bytes = after; len = r.len }) ≡ f → take r.len after ≡ T.entry
-        go f e c = taken (ltb 512 r.len) T.entry (unfold content held in (c ∙ sym e ∙ is_some))
+  pub dropped_first : {x : Cause} → c ≡ Some x → kept l.appid.now l.table.now (to_come w) ≡ kept l.appid.now l.table.now (to_come v)
+  dropped_first {x} h = ap (kept l.appid.now l.table.now) T.whole ∙ kept_less l.appid.now l.table.now T.entry (to_come v) (sym T.cause_is ∙ h)
 
-    pub kept_first : kept appid table es ≡ T.entry ∷ kept appid table T.rest
-    kept_first = ap (kept appid table) T.whole ∙ kept_more appid table T.entry T.rest kept_none_fits
-
-  pub dropped_first : {c : Cause} → r.cause ≡ Some c → kept appid table es ≡ kept appid table T.rest
-  dropped_first {c} h = ap (kept appid table) T.whole ∙ kept_less appid table T.entry T.rest (sym T.cause_is ∙ h)
+-- what is held is never longer
+pub held_short : (w : Entries) {p : Bytes} → p ≡ unwrap_or (held_of w) [] → length p ≤ 512
+held_short w e = rw e (content_short w.last)

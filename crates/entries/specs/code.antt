@@ -2,3 +2,4 @@ pub mod Owner
 pub mod Reading
 pub mod HostEnds
 pub mod Selecting
+pub mod Walking

@@ -3,16 +3,20 @@
 
 mod selected;
 mod url;
+mod walk;
 
 ghost use Rattle.entries.specs.code.Owner.{AppIdIs, OwnedBy, Differs, Judges};
 ghost use Rattle.entries.specs.code.Reading.{Decodes, Reads};
 ghost use Rattle.entries.specs.code.Selecting.{Selects};
 
+use ascii::Span;
+use json_text::Decoded;
 use label_lookup::Deeper;
 use refusals::Refusal;
 pub use selected::Selected;
 use trusted_list::Version;
 pub use url::Url;
+pub use walk::Entries;
 
 // ---- the AppID
 
@@ -34,26 +38,27 @@ pub fn read_appid<'a>(appid: &'a [u8]) -> Result<Option<Url<'a>>, Refusal>
     Ok(None)
 }
 
-// Where the AppID's private label begins and ends in it, empty where it has none; and what is held of the rules that go deeper than
+// Where the AppID's private label stands in it, empty where it has none; and what is held of the rules that go deeper than
 // it, where some do.
 #[derive(Clone, Copy)]
 pub struct Owner {
-    pub start: usize,
-    pub end: usize,
+    pub label: Span,
     pub deeper: Option<Deeper>,
 }
 
 // One pass over the table for the AppID's own host, which stands behind `https://` up to its end; two where rules go deeper than
 // its label. None for a bad table.
-pub fn find_owner(url: Url, table: &[u8]) -> Option<Owner>
-    ensures { OwnedBy url.entry.appid.now table.now result }
+pub fn find_owner(appid: &[u8], end: usize, table: &[u8]) -> Option<Owner>
+    ensures { OwnedBy appid.now end table.now result }
 {
-    let end = url.end;
-    let host = ascii::part(url.appid, 8, end);
+    let host = ascii::part(appid, 8, end);
     let found = label_lookup::find_owner(host, table)?;
-    let start = 8 + found.start;
+    let label = Span {
+        from: 8 + found.start,
+        to: end,
+    };
     let deeper = found.deeper;
-    Some(Owner { start, end, deeper })
+    Some(Owner { label, deeper })
 }
 
 // ---- causes
@@ -110,65 +115,55 @@ fn judge(entry: &[u8], label: &[u8], deeper: &Option<Deeper>, table: &[u8]) -> O
 
 // ---- an entry
 
-// How many bytes of it are held, above 512 where it has more; the cause for which it is discarded, none where it is kept; and where
-// the next one stands.
+// The cause for which it is discarded, none where it is kept; and where the next one stands.
 #[derive(Clone, Copy)]
 pub struct Entry {
-    pub len: usize,
     pub cause: Option<Cause>,
     pub next: Option<usize>,
 }
 
-// The entry at a place, decoded: how many bytes are held, and the place behind it; one without escapes is copied as it stands. A
-// string that was read before stands there.
-fn decode_entry(out: &mut [u8; 512], body: &[u8], at: usize) -> Option<(usize, usize)>
-    ensures { Decodes body.now at out.old out.new result }
+// The entry at a place, decoded, and the place behind it; one without escapes is copied as it stands. A string that was read before
+// stands there.
+fn decode_entry(out: &mut Decoded, body: &[u8], at: usize) -> Option<usize>
+    ensures { Decodes body.now at out.new result }
 {
     let Some(q) = json_text::strings::plain_end(body, at) else {
-        return json_text::decoding::decode_string(out, body, at);
+        return out.decode_string(body, at);
     };
     let from = at + 1;
     let entry = &body[from..q];
-    normal_forms::write_bytes(entry, out, 0);
-    Some((entry.len(), q + 1))
+    out.hold(entry);
+    Some(q + 1)
 }
 
-// The entry at a place of the selected list, for the AppID with this owner. The array is that of the `Decoded` in which the caller
-// holds the entry, the length its other field.
+// The entry at a place of the selected list, for the AppID with this owner.
 pub fn read_entry(
-    out: &mut [u8; 512],
+    out: &mut Decoded,
     body: &[u8],
     at: usize,
     appid: &[u8],
     owner: &Owner,
     table: &[u8],
 ) -> Entry
-    ensures { Reads body.now at appid.now owner.now table.now out.old out.new result }
+    ensures { Reads body.now at appid.now owner.now table.now out.new result }
 {
-    let Some((n, j)) = decode_entry(out, body, at) else {
+    let Some(j) = decode_entry(out, body, at) else {
         return Entry {
-            len: 0,
             cause: Some(Cause::TooLong),
             next: None,
         };
     };
     let next = trusted_list::next_entry(body, j);
     // more than are held: cause 1
-    if 512 < n {
+    let Some(entry) = out.held() else {
         return Entry {
-            len: n,
             cause: Some(Cause::TooLong),
             next,
         };
-    }
-    let label = ascii::part(appid, owner.start, owner.end);
-    let entry = ascii::prefix(out, n);
+    };
+    let label = owner.label.of(appid);
     let cause = judge(entry, label, &owner.deeper, table);
-    Entry {
-        len: n,
-        cause,
-        next,
-    }
+    Entry { cause, next }
 }
 
 // ---- the selected list
@@ -183,7 +178,7 @@ pub fn select<'a>(
     ensures { Selects url.entry.appid.now wanted.major wanted.minor body.now table.now result }
 {
     let ids = trusted_list::select(body, wanted)?;
-    let Some(owner) = find_owner(url, table) else {
+    let Some(owner) = find_owner(url.appid, url.end, table) else {
         return Err(Refusal::BadTable);
     };
     Ok(Selected {

@@ -1,35 +1,43 @@
 // The selected list, whose entries are read one after another.
 ghost use Rattle.std.specs.Prelude.{◌≡◌, ◌≤◌, length};
-ghost use Rattle.trusted_list.specs.code.Entries.{first_entry};
 ghost use Rattle.entries.specs.code.Owner.{Owned};
 ghost use Rattle.entries.specs.code.Reading.{IdsThere, ReadsOf};
 
-use crate::{Entry, Owner, read_entry};
+use crate::{Entries, Entry, Owner, read_entry};
+use json_text::Decoded;
 
 // The list that a body selects, for an AppID with this owner.
 #[derive(Clone, Copy)]
 pub struct Selected<'a> {
-    pub(crate) appid: &'a [u8],
-    pub(crate) owner: Owner,
-    pub(crate) body: &'a [u8],
-    pub(crate) ids: usize,
-    pub(crate) table: &'a [u8],
+    pub appid: &'a [u8],
+    pub owner: Owner,
+    pub body: &'a [u8],
+    pub ids: usize,
+    pub table: &'a [u8],
     ghost owned: { ∥ Owned appid.now table.now owner ∥₁ },
     ghost there: { IdsThere body.now ids },
     ghost short: { length body.now ≤ 65536 },
 }
 
 impl Selected<'_> {
-    // Where its first entry stands.
-    pub fn first(&self) -> Option<usize>
-        ensures { result ≡ first_entry self.now.body.now self.now.ids }
+    ghost use Rattle.entries.specs.code.Selecting.{listed};
+    ghost use Rattle.entries.specs.code.Walking.{Walk};
+
+    // Its entries, one after another.
+    pub fn entries(&self) -> Entries<'_>
+        ensures { Walk self.now (listed self.now) result }
     {
-        trusted_list::first_entry(self.body, self.ids)
+        let next = trusted_list::first_entry(self.body, self.ids);
+        Entries {
+            list: self,
+            last: Decoded::new(),
+            next,
+        }
     }
 
     // The entry at a place.
-    pub fn read(&self, out: &mut [u8; 512], at: usize) -> Entry
-        ensures { ReadsOf self.now.body.now at self.now.appid.now self.now.table.now out.old out.new result }
+    pub fn read(&self, out: &mut Decoded, at: usize) -> Entry
+        ensures { ReadsOf self.now.body.now at self.now.appid.now self.now.table.now out.new result }
     {
         read_entry(out, self.body, at, self.appid, &self.owner, self.table)
     }

@@ -5,6 +5,6 @@ ghost use Rattle.entries.specs.code.HostEnds.{HostEnds};
 #[derive(Clone, Copy)]
 pub struct Url<'a> {
     pub appid: &'a [u8],
-    pub(crate) end: usize,
+    pub end: usize,
     ghost host_ends: { HostEnds appid.now end },
 }

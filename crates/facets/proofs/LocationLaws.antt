@@ -1,5 +1,5 @@
 -- The exported fetch location: its three numbers, and the part that they name. Assumes nothing.
-use Rattle.std.specs.Prelude.{if◌then◌else◌}
+use Rattle.std.specs.Prelude.{Option, None, Some, if◌then◌else◌}
 use mathlib.Core.Path.{◌≡◌, refl, ◌∙◌}
 use mathlib.Core.Bool.{Bool, true, false, ◌||◌, ◌&&◌, not}
 use Prim.Native.Nat.{ℕ, ◌+◌, ◌-◌, ◌≤◌, ◌<◌}
@@ -11,6 +11,7 @@ use lib.Seq.{take-length}
 use lib.Dec.{ltb}
 use borrow.Author.Tests.{ltb-false}
 use Rattle.ascii.specs.Ascii.{Bytes, is_none}
+use Rattle.ascii.specs.declared.Span.{Span}
 use Rattle.origin.specs.Origin.{begins_https, https_url, is_facet}
 use Rattle.origin.specs.code.Parts.{part}
 use Rattle.refusals.specs.declared.Refusal.TheVariants.{Stranger, BadAppId}
@@ -22,7 +23,7 @@ use Rattle.decision.specs.Decide.{settled, before_list}
 use Rattle.decision.specs.Location.{Source, nowhere, the_app_id, redirect, source_from, source_if_fetch, fetch_source}
 use Rattle.decision.specs.code.Meaning.{Stands, at_nowhere, at_app, at_hop, Inside, text_place, location_of, Locates}
 use Rattle.decision.specs.declared.Location.{Location}
-use Rattle.decision.specs.declared.Location.TheVariants.{Nothing, AppId, Text}
+use Rattle.decision.specs.declared.Location.TheVariants.{AppId, Text}
 use Rattle.facets.specs.Located.{source_number, source_start, source_length, named_slice, named}
 
 -- ---- a bad AppID is fetched from nowhere: so the length of one that is fetched fits
@@ -48,10 +49,10 @@ app_short caller appid items lent h = go (is_bad_app_id appid) refl
 
 -- ---- the three numbers
 
-stands_none : {s : Source} → Stands s Nothing → s ≡ nowhere
+stands_none : {s : Source} → Stands s None → s ≡ nowhere
 stands_none at_nowhere = refl
 
-stands_app : {s : Source} → Stands s AppId → s ≡ the_app_id
+stands_app : {s : Source} → Stands s (Some AppId) → s ≡ the_app_id
 stands_app at_app = refl
 
 record HopAt (s : Source) (a b : ℕ) : Type 0 where
@@ -62,14 +63,14 @@ record HopAt (s : Source) (a b : ℕ) : Type 0 where
   low : a < 65536
   high : b < 131072
 
-stands_hop : {s : Source} {a b : ℕ} → Stands s (Text a b) → HopAt s a b
+stands_hop : {s : Source} {t : Span} → Stands s (Some (Text t)) → HopAt s t.from t.to
 stands_hop (at_hop {h} e f l k) = record { hop = h; is = refl; from = e; to = f; low = l; high = k }
 
-inside_text : {lent : Bytes} {a b : ℕ} → Inside lent (Text a b) → b ≤ length lent
+inside_text : {lent : Bytes} {t : Span} → Inside lent (Some (Text t)) → t.to ≤ length lent
 inside_text (text_place l m) = m
 
-module _ {appid lent p : Bytes} {s : Source} {r : Location} (L : Locates appid lent p s r) where
-  module _ (h : r ≡ Nothing) where
+module _ {appid lent p : Bytes} {s : Source} {r : Option Location} (L : Locates appid lent p s r) where
+  module _ (h : r ≡ None) where
     none_is : s ≡ nowhere
     none_is = stands_none (rw h at L.stands)
 
@@ -89,9 +90,9 @@ module _ {appid lent p : Bytes} {s : Source} {r : Location} (L : Locates appid l
     unfolding named named_slice location_of
     none_part = rw h at L.is
 
-  module _ (h : r ≡ AppId) where
+  module _ {l : Location} (h : r ≡ Some l) (g : l ≡ AppId) where
     app_is : s ≡ the_app_id
-    app_is = stands_app (rw h at L.stands)
+    app_is = stands_app (rw (h, g) at L.stands)
 
     pub app_source : 1 ≡ source_number s
     app_source = rw app_is
@@ -108,37 +109,37 @@ module _ {appid lent p : Bytes} {s : Source} {r : Location} (L : Locates appid l
 
     pub app_part : named appid lent 1 0 (length appid) ≡ p
     unfolding named named_slice location_of
-    app_part = take-length appid ∙ (rw h at L.is)
+    app_part = take-length appid ∙ (rw (h, g) at L.is)
 
-  module _ {a b : ℕ} (h : r ≡ Text a b) where
-    H : HopAt s a b
-    H = stands_hop (rw h at L.stands)
+  module _ {l : Location} {t : Span} (h : r ≡ Some l) (g : l ≡ Text t) where
+    H : HopAt s t.from t.to
+    H = stands_hop (rw (h, g) at L.stands)
 
-    pub text_order : a ≤ b
+    pub text_order : t.from ≤ t.to
     text_order = omega (arith, H.from, H.to)
 
-    pub text_start_fits : Fits w32 a
+    pub text_start_fits : Fits w32 t.from
     text_start_fits = record { fits = omega (arith, H.low) }
 
-    pub text_length_fits : Fits w32 (b - a)
+    pub text_length_fits : Fits w32 (t.to - t.from)
     text_length_fits = record { fits = omega (arith, H.high) }
 
     pub text_source : 2 ≡ source_number s
     text_source = rw H.is
 
-    pub text_start : a ≡ source_start s
+    pub text_start : t.from ≡ source_start s
     text_start = rw H.is H.from
 
-    pub text_length_lem : b - a ≡ source_length appid s
+    pub text_length_lem : t.to - t.from ≡ source_length appid s
     text_length_lem = rw H.is (omega (arith, H.from, H.to))
 
-    pub text_inside : a + (b - a) ≤ length (named_slice appid lent 2)
+    pub text_inside : t.from + (t.to - t.from) ≤ length (named_slice appid lent 2)
     unfolding named_slice
-    text_inside = let e = inside_text (rw h at L.inside) in omega (arith, e, text_order)
+    text_inside = let e = inside_text (rw (h, g) at L.inside) in omega (arith, e, text_order)
 
-    pub text_part : named appid lent 2 a (b - a) ≡ p
+    pub text_part : named appid lent 2 t.from (t.to - t.from) ≡ p
     unfolding named named_slice location_of part
-    text_part = rw h at L.is
+    text_part = rw (h, g) at L.is
 
-pub app_fits : (caller appid items lent : Bytes) {p : Bytes} {r : Location} → Locates appid lent p (fetch_source caller appid items lent) r → r ≡ AppId → Fits w32 (length appid)
-app_fits caller appid items lent L h = record { fits = omega (arith, app_short caller appid items lent (app_is L h)) }
+pub app_fits : (caller appid items lent : Bytes) {p : Bytes} {r : Option Location} {l : Location} → Locates appid lent p (fetch_source caller appid items lent) r → r ≡ Some l → l ≡ AppId → Fits w32 (length appid)
+app_fits caller appid items lent L h g = record { fits = omega (arith, app_short caller appid items lent (app_is L h g)) }

@@ -6,21 +6,21 @@ use lib.ListN.{length, take, drop}
 use Rattle.ascii.specs.Ascii.{Bytes}
 use Rattle.fetch_record.specs.code.Meaning.{part_in, TargetPlaced, target_in, Targets}
 use Rattle.fetch_record.specs.declared.item.Redirect.{Redirect}
-use Rattle.fetch_record.specs.declared.Target.{Target}
+use Rattle.ascii.specs.declared.Span.{Span}
 
-record Inside (lent : Bytes) (t : Target) : Type 0 where
+record Inside (lent : Bytes) (t : Span) : Type 0 where
   low : t.from ≤ t.to
   high : t.to ≤ length lent
 
-inside : {lent : Bytes} {t : Target} → TargetPlaced lent (Some t) → Inside lent t
+inside : {lent : Bytes} {t : Span} → TargetPlaced lent (Some t) → Inside lent t
 inside (target_in l h) = record { low = l; high = h }
 
-module _ {lent : Bytes} {o : Option Bytes} {l : Option Redirect} {q : Option Target} (T : Targets lent o l q) where
+module _ {lent : Bytes} {o : Option Bytes} {l : Option Redirect} {q : Option Span} (T : Targets lent o l q) where
   pub target_none : q ≡ None → o ≡ None
   unfolding part_in
   target_none h = sym T.is ∙ rw h
 
-  module _ {t : Target} (h : q ≡ Some t) where
+  module _ {t : Span} (h : q ≡ Some t) where
     I : Inside lent t
     I = let U : Targets lent o l (Some t) = rw h at T in inside U.places
 

@@ -22,7 +22,7 @@ use Rattle.fetch_record.specs.Fetching.{after_hops, by_record, fetching}
 use Rattle.fetch_record.specs.code.Meaning.{redirect_in, redirect_at, redirects_in, Placed, layout_read, LayoutPlaced, layout, Lays, hops_read, target, part_in, no_target, target_in, TargetOf, of_none, of_hop, Targets}
 use Rattle.fetch_record.specs.declared.item.Redirect.{Redirect}
 use Rattle.fetch_record.specs.declared.Layout.{Layout}
-use Rattle.fetch_record.specs.declared.Target.{Target}
+use Rattle.ascii.specs.declared.Span.{Span}
 use Rattle.fetch_record.proofs.ItemLaws.{body_fields}
 use Rattle.fetch_record.proofs.RecordLaws.{redirects_more}
 
@@ -165,7 +165,7 @@ module _ {items lent : Bytes} {q : Option Layout} (L : Lays items lent q) where
     unfolding fetching by_record layout_read after_hops hops_read
     settle_passed f g = rw (← layout_is, e, ← f, g)
 
-    pub target_there : {r : Option Target} → Targets lent (last_location lent (redirects_in l.count items)) (last_redirect (redirects_in l.count items)) r → Targets lent (target items lent) (last_hop items lent) r
+    pub target_there : {r : Option Span} → Targets lent (last_location lent (redirects_in l.count items)) (last_redirect (redirects_in l.count items)) r → Targets lent (target items lent) (last_hop items lent) r
     unfolding target last_hop layout_read
     target_there T = record { is = T.is ∙ sym (rw (← layout_is, e)); places = T.places; hop = rw (← layout_is, e) T.hop }
 
@@ -193,7 +193,7 @@ unfolding redirects_in
 last_hop_lem items zero z = absurd (z refl)
 last_hop_lem items (suc m) z = let e : suc m - 1 ≡ m = omega arith in rw (hop_snoc (redirects_in m items) (redirect_at m items), e)
 
-pub last_part : {items lent : Bytes} {n : ℕ} {t : Target} (h : Redirect) → Placed items lent n → (n ≡ 0 → ⊥) → h ≡ redirect_at (n - 1) items → t.from ≡ h.start → t.to ≡ h.start + h.size → h.start < 65536 → h.size < 65536
+pub last_part : {items lent : Bytes} {n : ℕ} {t : Span} (h : Redirect) → Placed items lent n → (n ≡ 0 → ⊥) → h ≡ redirect_at (n - 1) items → t.from ≡ h.start → t.to ≡ h.start + h.size → h.start < 65536 → h.size < 65536
     → Targets lent (last_location lent (redirects_in n items)) (last_redirect (redirects_in n items)) (Some t)
 unfolding part_in location
 last_part {items} {lent} {n} {t} h P z e g f s u =

@@ -8,6 +8,7 @@ ghost use Rattle.fetch_record.specs.Record.{read_end, in_text, hop_refusal, last
 ghost use Rattle.fetch_record.specs.Fetching.{fetching};
 ghost use Rattle.fetch_record.specs.code.Meaning.{redirect_at, redirects_in, end_read, Placed, Counts, Lays, hops_read, target, Targets};
 
+use ascii::Span;
 use item::{Answer, Redirect};
 use refusals::Refusal;
 
@@ -23,13 +24,6 @@ pub struct FetchRecord<'i, 't> {
 struct Layout {
     count: usize,
     answer: Option<Answer>,
-}
-
-// The last redirect's part of the text, by the places where it starts and ends.
-#[derive(Clone, Copy)]
-pub struct Target {
-    pub from: usize,
-    pub to: usize,
 }
 
 // At most one answer, then the end: an answer is its kind, 2, and a body of 3 bytes.
@@ -70,6 +64,7 @@ impl FetchRecord<'_, '_> {
     fn count_redirects(self) -> Option<usize>
         ensures { Counts self.entry.items.now self.entry.text.now result }
     {
+        // by number: the number of the first item that is no redirect is the answer
         for n in 0..8 {
             let at = 8 * n;
             if self.items.len() <= at {
@@ -134,14 +129,14 @@ impl FetchRecord<'_, '_> {
     }
 
     // Where the last redirect's Location stands in the text; none for a bad record too.
-    pub fn last_location(self) -> Option<Target>
+    pub fn last_location(self) -> Option<Span>
         ensures { Targets self.entry.text.now (target self.entry.items.now self.entry.text.now) (last_hop self.entry.items.now self.entry.text.now) result }
     {
         self.last_of(self.lay()?.count)
     }
 
     // The Location of the last of the first n redirects.
-    fn last_of(self, n: usize) -> Option<Target>
+    fn last_of(self, n: usize) -> Option<Span>
         requires { Placed self.items.now self.text.now n }
         ensures { Targets self.entry.text.now (last_location self.entry.text.now (redirects_in n self.entry.items.now)) (last_redirect (redirects_in n self.entry.items.now)) result }
     {
@@ -149,7 +144,7 @@ impl FetchRecord<'_, '_> {
             return None;
         }
         let h = self.redirect_at(n - 1);
-        Some(Target {
+        Some(Span {
             from: h.start as usize,
             to: h.location_end(),
         })

@@ -5,12 +5,8 @@ ghost use Rattle.std.specs.Prelude.{◌≤◌};
 
 use std::io;
 
-fn write(rt: &impl Print, s: &[u8]) -> io::Result<()> {
-    rt.write_all(s)
-}
-
 fn write_number(rt: &impl Print, b: u8) -> io::Result<()> {
-    write(rt, b" ")?;
+    rt.write_all(b" ")?;
     rt.print(b)
 }
 
@@ -29,20 +25,20 @@ fn show_into(
     item: &mut [u8],
     text: &mut [u8],
 ) -> io::Result<()> {
-    write(rt, label)?;
-    write(rt, b":")?;
+    rt.write_all(label)?;
+    rt.write_all(b":")?;
     match head_items::head_item(head, start, item, text) {
         Err(x) => {
-            write(rt, b" refused ")?;
+            rt.write_all(b" refused ")?;
             rt.print(u16::from(x))?;
         }
         Ok(written) => {
             write_numbers(rt, ascii::prefix(item, written.item))?;
-            write(rt, b" ")?;
-            write(rt, ascii::prefix(text, written.text))?;
+            rt.write_all(b" ")?;
+            rt.write_all(ascii::prefix(text, written.text))?;
         }
     }
-    write(rt, b"\n")
+    rt.write_all(b"\n")
 }
 
 // Into an item of 8 bytes and a text of 40, with the start 3.

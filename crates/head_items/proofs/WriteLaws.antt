@@ -10,6 +10,7 @@ use lib.ListN.{length, get_or, take, drop}
 use lib.Dec.{leb}
 use borrow.Author.Rules.{rules}
 use borrow.Author.Tests.{le-leb, lt-leb, leb-true}
+use Rattle.ascii.specs.declared.Span.{Span}
 use Rattle.ascii.specs.Ascii.{Bytes, written_over}
 use Rattle.normal_forms.specs.code.Writing.{Wrote}
 use Rattle.normal_forms.proofs.Writings.{wrote_is}
@@ -17,7 +18,7 @@ use Rattle.refusals.specs.declared.Refusal.{Refusal}
 use Rattle.refusals.specs.declared.Refusal.TheVariants.{Full, BadHead}
 use Rattle.head_items.specs.HeadItem.{two_bytes, seen, item_of, location_text, start_fits, refused, written, fitting, item_for}
 use Rattle.response_head.specs.ResponseHead.{Head, redirect, answer, read_head}
-use Rattle.response_head.specs.code.Meaning.{head_in, HeadPlaced, a_redirect, ReadsHead}
+use Rattle.response_head.specs.code.Meaning.{head_in, ReadsHead}
 use Rattle.head_items.specs.code.Meaning.{has_room, redirect_item, lengths_of, Answers, WritesAnswer}
 use Rattle.response_head.specs.declared.Head.{Head as Said}
 use Rattle.response_head.specs.declared.Head.TheVariants.{Redirect, Answer}
@@ -129,13 +130,6 @@ module _ (start status : ℕ) (authorized : Bool) (loc item lent : Bytes) where
 
 -- ---- a head
 
-record Inside (s : Bytes) (a b : ℕ) : Type 0 where
-  low : a ≤ b
-  high : b ≤ length s
-
-inside : {s : Bytes} {n a b : ℕ} {w : Bool} → HeadPlaced s (Some (Redirect n w a b)) → Inside s a b
-inside (a_redirect h k) = record { low = h; high = k }
-
 module _ (s : Bytes) (o : Option Head) {q : Option Said} (R : ReadsHead s o q) where
   pub head_refused : (start : ℕ) (item lent : Bytes) → q ≡ None → Answers start o item item lent lent (Err BadHead)
   unfolding head_in item_for
@@ -145,27 +139,17 @@ module _ (s : Bytes) (o : Option Head) {q : Option Said} (R : ReadsHead s o q) w
   unfolding head_in
   head_answer {h} {start} {n} {w} {item} {item₁} {lent} f k W = let z : o ≡ Some (answer n w) = sym R.is ∙ rw (f, k) in rw z (W.is start lent)
 
-  module _ {h : Said} {n a b : ℕ} {w : Bool} (f : q ≡ Some h) (k : h ≡ Redirect n w a b) where
-    I : Inside s a b
-    I = let Q : ReadsHead s o (Some (Redirect n w a b)) = rw (f, k) at R in inside Q.places
-
-    pub head_low : a ≤ b
-    head_low = I.low
-
-    pub head_high : b ≤ length s
-    head_high = I.high
-
-    redirect_said : o ≡ Some (redirect n w (take (b - a) (drop a s)))
+  module _ {h : Said} {n : ℕ} {w : Bool} {p : Span} (f : q ≡ Some h) (k : h ≡ Redirect n w p) {v : Bytes} (e : v ≡ take (p.to - p.from) (drop p.from s)) where
+    redirect_said : o ≡ Some (redirect n w v)
     unfolding head_in
-    redirect_said = sym R.is ∙ rw (f, k)
+    redirect_said = sym R.is ∙ rw (f, k, e)
 
-    pub head_redirect : {start : ℕ} {item item₁ lent lent₁ : Bytes} {r : Result Lengths Refusal}
-        → Answers start (Some (redirect n w (take (b - a) (drop a s)))) item item₁ lent lent₁ r → Answers start o item item₁ lent lent₁ r
+    pub head_redirect : {start : ℕ} {item item₁ lent lent₁ : Bytes} {r : Result Lengths Refusal} → Answers start (Some (redirect n w v)) item item₁ lent lent₁ r → Answers start o item item₁ lent lent₁ r
     head_redirect A = rw redirect_said A
 
     -- a Location is no longer than a head
-    pub head_small : o ≡ read_head s → length (take (b - a) (drop a s)) ≤ 65535
-    head_small e = omega (arith, (redirect_bounds s n w (take (b - a) (drop a s)) (sym e ∙ redirect_said)).size)
+    pub head_small : o ≡ read_head s → length v ≤ 65535
+    head_small g = omega (arith, (redirect_bounds s n w v (sym g ∙ redirect_said)).size)
 
 pub ruleset byte_laws = (room_item, room_text, room_start, item_is, rules)
 
@@ -175,7 +159,7 @@ pub ruleset put_laws = (redirect_put, put_start, rules)
 
 pub ruleset redirect_laws = (redirect_room, redirect_full, rules)
 
-pub ruleset head_laws = (head_refused, head_answer, head_low, head_high, head_redirect, head_small, rules)
+pub ruleset head_laws = (head_refused, head_answer, head_redirect, head_small, rules)
 
 -- for a return: its law alone, so that a search that finds nothing ends
 pub ruleset room_laws = (room_start)

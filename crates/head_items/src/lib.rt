@@ -114,13 +114,12 @@ pub fn head_item(
         Head::Redirect {
             status,
             authorized,
-            from,
-            to,
+            location,
         } => {
             let redirect = Redirect {
                 status,
                 authorized,
-                location: &head[from..to],
+                location: location.of(head),
                 start,
             };
             redirect.write(item, text)

@@ -6,19 +6,12 @@ use full_reads::read_full;
 use std::io;
 use std::num::wrapping_add_u64;
 
-fn is_readable(s: &[u8], n: usize) -> bool {
-    if n <= s.len() {
-        return json_values::is_readable(&s[0..n]);
-    }
-    false
-}
-
 fn turn(s: &mut [u8], n: usize, blank: u8) -> u64 {
     if s.len() == 0 {
         return 0;
     }
     s[0] = blank;
-    if is_readable(s, n) {
+    if json_values::is_readable(ascii::prefix(s, n)) {
         return 1;
     }
     0

@@ -1,5 +1,5 @@
 // Every byte in a string, raw and behind a backslash, and every two bytes.
-use super::tally::{Tally, none, tell};
+use super::tally::Tally;
 use super::texts::{is_readable, put};
 
 // A string of these two bytes.
@@ -25,18 +25,11 @@ fn raw(b: u8) -> bool {
 
 // ASCII, no control byte, quotation mark or backslash.
 fn is_plain(b: u8) -> bool {
-    match b {
-        0x22 | 0x5C => false,
-        0x20..=0x7F => true,
-        _ => false,
-    }
+    matches!(b, 0x20..=0x7F) && b != b'"' && b != b'\\'
 }
 
 fn is_short_escape(b: u8) -> bool {
-    match b {
-        b'"' | b'\\' | b'/' | b'b' | b'f' | b'n' | b'r' | b't' => true,
-        _ => false,
-    }
+    matches!(b, b'"' | b'\\' | b'/' | b'b' | b'f' | b'n' | b'r' | b't')
 }
 
 // Two plain bytes, a short escape, or a character of two bytes (UTF8-2 = %xC2-DF UTF8-tail).
@@ -47,41 +40,35 @@ fn is_pair(a: u8, b: u8) -> bool {
     if a == 0x5C {
         return is_short_escape(b);
     }
-    match a {
-        0xC2..=0xDF => is_tail(b),
-        _ => false,
-    }
+    matches!(a, 0xC2..=0xDF) && is_tail(b)
 }
 
 fn is_tail(b: u8) -> bool {
-    match b {
-        0x80..=0xBF => true,
-        _ => false,
-    }
+    matches!(b, 0x80..=0xBF)
 }
 
 pub fn all_raw() -> Tally {
-    let mut t = none();
+    let mut t = Tally::none();
     for b in 0u16..256 {
-        t = tell(t, raw(b as u8) == is_plain(b as u8));
+        t = t.tell(raw(b as u8) == is_plain(b as u8));
     }
     t
 }
 
 pub fn all_escaped() -> Tally {
-    let mut t = none();
+    let mut t = Tally::none();
     for b in 0u16..256 {
-        t = tell(t, two(b'\\', b as u8) == is_short_escape(b as u8));
+        t = t.tell(two(b'\\', b as u8) == is_short_escape(b as u8));
     }
     t
 }
 
 pub fn all_pairs() -> Tally {
-    let mut t = none();
+    let mut t = Tally::none();
     for n in 0u32..65536 {
         let a = (n / 256) as u8;
         let b = (n % 256) as u8;
-        t = tell(t, two(a, b) == is_pair(a, b));
+        t = t.tell(two(a, b) == is_pair(a, b));
     }
     t
 }

@@ -1,5 +1,5 @@
 // Every `\uXXXX` alone, and the pairs at the ends of the surrogates.
-use super::tally::{Tally, none, tell};
+use super::tally::Tally;
 use super::texts::{decodes_to, is_readable, put, put_all, put_escape};
 
 // The UTF-8 of a number below 0x10000 (RFC 3629, section 3, the table).
@@ -17,10 +17,7 @@ fn put_code(buf: &mut [u8], n: u16) -> usize {
 }
 
 fn is_surrogate(n: u16) -> bool {
-    match n {
-        0xD800..=0xDFFF => true,
-        _ => false,
-    }
+    matches!(n, 0xD800..=0xDFFF)
 }
 
 // A surrogate alone is unreadable; any other number decodes to its UTF-8.
@@ -40,10 +37,10 @@ fn alone(n: u16, upper: bool) -> bool {
 }
 
 pub fn all_alone() -> Tally {
-    let mut t = none();
+    let mut t = Tally::none();
     for n in 0u32..65536 {
-        t = tell(t, alone(n as u16, false));
-        t = tell(t, alone(n as u16, true));
+        t = t.tell(alone(n as u16, false));
+        t = t.tell(alone(n as u16, true));
     }
     t
 }
@@ -64,8 +61,8 @@ fn pair_is(high: u16, low: u16, decoded: &[u8]) -> bool {
 
 // The pairs at the ends of the surrogates.
 pub fn all_pairs() -> Tally {
-    let t = tell(none(), pair_is(0xD800, 0xDC00, b"\xF0\x90\x80\x80"));
-    let u = tell(t, pair_is(0xD800, 0xDFFF, b"\xF0\x90\x8F\xBF"));
-    let v = tell(u, pair_is(0xDBFF, 0xDC00, b"\xF4\x8F\xB0\x80"));
-    tell(v, pair_is(0xDBFF, 0xDFFF, b"\xF4\x8F\xBF\xBF"))
+    let t = Tally::none().tell(pair_is(0xD800, 0xDC00, b"\xF0\x90\x80\x80"));
+    let u = t.tell(pair_is(0xD800, 0xDFFF, b"\xF0\x90\x8F\xBF"));
+    let v = u.tell(pair_is(0xDBFF, 0xDC00, b"\xF4\x8F\xB0\x80"));
+    v.tell(pair_is(0xDBFF, 0xDFFF, b"\xF4\x8F\xBF\xBF"))
 }

@@ -12,15 +12,15 @@ mod texts;
 mod words;
 
 fn main(rt: HostRuntime) -> io::Result<()> {
-    tally::print(&rt, b"nesting", nesting::all())?;
-    tally::print(&rt, b"decoded lengths", lengths::all())?;
-    tally::print(&rt, b"raw bytes", bytes::all_raw())?;
-    tally::print(&rt, b"bytes behind a backslash", bytes::all_escaped())?;
-    tally::print(&rt, b"two bytes", bytes::all_pairs())?;
-    tally::print(&rt, b"\\u alone", escapes::all_alone())?;
-    tally::print(&rt, b"pairs decoded", escapes::all_pairs())?;
-    tally::print(&rt, b"surrogates", words::surrogates())?;
-    tally::print(&rt, b"UTF-8", words::utf8())?;
-    tally::print(&rt, b"numbers", words::numbers())?;
-    tally::print(&rt, b"texts", words::texts())
+    nesting::all().print(&rt, b"nesting")?;
+    lengths::all().print(&rt, b"decoded lengths")?;
+    bytes::all_raw().print(&rt, b"raw bytes")?;
+    bytes::all_escaped().print(&rt, b"bytes behind a backslash")?;
+    bytes::all_pairs().print(&rt, b"two bytes")?;
+    escapes::all_alone().print(&rt, b"\\u alone")?;
+    escapes::all_pairs().print(&rt, b"pairs decoded")?;
+    words::surrogates().print(&rt, b"surrogates")?;
+    words::utf8().print(&rt, b"UTF-8")?;
+    words::numbers().print(&rt, b"numbers")?;
+    words::texts().print(&rt, b"texts")
 }

@@ -1,5 +1,5 @@
 // Arrays and objects nested 1 to 40 deep: 16 open together are readable, 17 are not.
-use super::tally::{Tally, none, tell};
+use super::tally::Tally;
 use super::texts::{is_readable, put, put_all, put_times};
 
 // `[` n times, and `]` n times.
@@ -45,14 +45,14 @@ fn beside(n: usize) -> bool {
 
 fn one_depth(t: Tally, n: usize) -> Tally {
     let is_shallow = n <= 16;
-    let a = tell(t, arrays(n) == is_shallow);
-    let b = tell(a, objects(n) == is_shallow);
-    let c = tell(b, mixed(n) == is_shallow);
-    tell(c, beside(n))
+    let a = t.tell(arrays(n) == is_shallow);
+    let b = a.tell(objects(n) == is_shallow);
+    let c = b.tell(mixed(n) == is_shallow);
+    c.tell(beside(n))
 }
 
 pub fn all() -> Tally {
-    let mut t = none();
+    let mut t = Tally::none();
     for n in 1..=40 {
         t = one_depth(t, n);
     }

@@ -8,24 +8,21 @@ pub struct Tally {
     pub all: u64,
 }
 
-pub fn none() -> Tally {
-    Tally { right: 0, all: 0 }
-}
-
-pub fn tell(t: Tally, as_expected: bool) -> Tally {
-    if as_expected {
-        return Tally {
-            right: wrapping_add_u64(t.right, 1),
-            all: wrapping_add_u64(t.all, 1),
-        };
+impl Tally {
+    pub fn none() -> Tally {
+        Tally { right: 0, all: 0 }
     }
-    Tally {
-        right: t.right,
-        all: wrapping_add_u64(t.all, 1),
-    }
-}
 
-pub fn print(rt: &impl Print, what: &[u8], t: Tally) -> io::Result<()> {
-    rt.write_all(what)?;
-    println!(rt; ": {} of {} as expected", t.right, t.all)
+    // One case more.
+    pub fn tell(self, as_expected: bool) -> Tally {
+        Tally {
+            right: wrapping_add_u64(self.right, u64::from(as_expected)),
+            all: wrapping_add_u64(self.all, 1),
+        }
+    }
+
+    pub fn print(self, rt: &impl Print, what: &[u8]) -> io::Result<()> {
+        rt.write_all(what)?;
+        println!(rt; ": {} of {} as expected", self.right, self.all)
+    }
 }

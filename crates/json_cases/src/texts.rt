@@ -1,19 +1,14 @@
 // Texts built in a buffer of 1,024 bytes. What does not fit is left out.
+use json_text::Decoded;
+use normal_forms::write_bytes;
+
 // One byte at a place; the place behind it.
 pub fn put(buf: &mut [u8], at: usize, b: u8) -> usize {
-    if at < buf.len() {
-        buf[at] = b;
-        return at + 1;
-    }
-    at
+    write_bytes(&[b], buf, at)
 }
 
 pub fn put_all(buf: &mut [u8], at: usize, bytes: &[u8]) -> usize {
-    let mut to = at;
-    for b in bytes {
-        to = put(buf, to, *b);
-    }
-    to
+    write_bytes(bytes, buf, at)
 }
 
 // The bytes, n times.
@@ -66,17 +61,12 @@ pub fn decodes_to(buf: &[u8], n: usize, content: &[u8], m: usize) -> bool {
     if !json_values::is_readable(&buf[0..n]) {
         return false;
     }
-    let mut space = [0u8; 512];
-    let Some((d, _)) = json_text::decoding::decode_string(&mut space, &buf[0..n], 0) else {
+    let mut decoded = Decoded::new();
+    let Some(_) = decoded.decode_string(&buf[0..n], 0) else {
         return false;
     };
-    if m > 512 {
-        return 512 < d;
+    match decoded.held() {
+        Some(bytes) => ascii::equal(bytes, &content[0..m]),
+        None => m > 512,
     }
-    holds(&space, d, &content[0..m])
-}
-
-// The first n bytes are these.
-fn holds(bytes: &[u8; 512], n: usize, content: &[u8]) -> bool {
-    ascii::equal(ascii::prefix(bytes, n), content)
 }

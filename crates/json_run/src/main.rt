@@ -3,62 +3,31 @@
 #![tactic(auto)]
 
 use full_reads::read_full;
+use json_text::Decoded;
+use normal_forms::write_bytes;
 use std::io;
 use std::io::Read;
 
-fn digit(n: u8) -> u8 {
-    if n < 10 {
-        return b'0' + n;
-    }
-    if n < 16 {
-        return b'a' + (n - 10);
-    }
-    b'?'
-}
-
-fn put(line: &mut [u8], at: usize, b: u8) -> usize {
-    if at < line.len() {
-        line[at] = b;
-        return at + 1;
-    }
-    at
-}
-
-fn put_all(line: &mut [u8], at: usize, bytes: &[u8]) -> usize {
-    let mut to = at;
-    for b in bytes {
-        to = put(line, to, *b);
-    }
-    to
-}
+const DIGITS: [u8; 16] = *b"0123456789abcdef";
 
 fn put_byte(line: &mut [u8], at: usize, b: u8) -> usize {
-    let i = put(line, at, digit(b / 16));
-    put(line, i, digit(b % 16))
+    let digits = [DIGITS[(b / 16) as usize], DIGITS[(b % 16) as usize]];
+    write_bytes(&digits, line, at)
 }
 
-fn put_hex(line: &mut [u8], at: usize, bytes: &[u8; 512], n: usize) -> usize {
+fn put_hex(line: &mut [u8], at: usize, bytes: &[u8]) -> usize {
     let mut to = at;
-    for b in ascii::prefix(bytes, n) {
+    for b in bytes {
         to = put_byte(line, to, *b);
     }
     to
 }
 
-fn put_decoded(line: &mut [u8], at: usize, bytes: &[u8; 512], n: usize) -> usize {
-    if 512 < n {
-        return put_all(line, at, b"long");
+fn put_decoded(line: &mut [u8], at: usize, decoded: &Decoded) -> usize {
+    match decoded.held() {
+        Some(bytes) => put_hex(line, at, bytes),
+        None => write_bytes(b"long", line, at),
     }
-    put_hex(line, at, bytes, n)
-}
-
-// Writes the first n bytes of the line; false where it has fewer.
-fn write_line(rt: &impl Print, line: &[u8], n: usize) -> io::Result<bool> {
-    if n <= line.len() {
-        rt.write_all(&line[0..n])?;
-        return Ok(true);
-    }
-    Ok(false)
 }
 
 // The answer to one text.
@@ -72,30 +41,17 @@ fn answer(rt: &impl Print, s: &[u8]) -> io::Result<bool> {
         rt.write_all(b"readable\n")?;
         return Ok(true);
     }
-    let mut bytes = [0u8; 512];
-    let Some((n, _)) = json_text::decoding::decode_string(&mut bytes, s, i) else {
+    let mut decoded = Decoded::new();
+    let Some(_) = decoded.decode_string(s, i) else {
         return Ok(false);
     };
     let mut space = [0u8; 1040];
     let line: &mut [u8] = &mut space;
-    let a = put_all(line, 0, b"string ");
-    let b = put_decoded(line, a, &bytes, n);
-    let c = put(line, b, b'\n');
-    write_line(rt, line, c)
-}
-
-fn answer_first(rt: &impl Print, buf: &[u8], n: usize) -> io::Result<bool> {
-    if n <= buf.len() {
-        return answer(rt, &buf[0..n]);
-    }
-    Ok(false)
-}
-
-fn read_some(reader: &mut impl Read, buf: &mut [u8], n: usize) -> io::Result<usize> {
-    if n <= buf.len() {
-        return read_full(reader, &mut buf[0..n]);
-    }
-    Ok(0)
+    let a = write_bytes(b"string ", line, 0);
+    let b = put_decoded(line, a, &decoded);
+    let c = write_bytes(b"\n", line, b);
+    rt.write_all(ascii::prefix(line, c))?;
+    Ok(true)
 }
 
 // Answers one text; false at the end of the input.
@@ -106,11 +62,13 @@ fn one(rt: &impl Print, reader: &mut impl Read) -> io::Result<bool> {
     }
     let n = u16::from_be_bytes(length) as usize;
     let mut space = [0u8; 4096];
-    let buf: &mut [u8] = &mut space;
-    if read_some(reader, buf, n)? != n {
+    let Some(text) = space.get_mut(..n) else {
+        return Ok(false);
+    };
+    if read_full(reader, text)? != n {
         return Ok(false);
     }
-    answer_first(rt, buf, n)
+    answer(rt, text)
 }
 
 fn main(rt: HostRuntime) -> io::Result<()> {

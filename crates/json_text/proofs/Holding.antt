@@ -1,5 +1,5 @@
--- Decoding a string into a lent array.
-use Rattle.std.specs.Prelude.{if◌then◌else◌, Option, None, Some}
+-- A string as it is decoded: what is held of it.
+use Rattle.std.specs.Prelude.{if◌then◌else◌, Option, None, Some, option_map, unwrap_or}
 use mathlib.Core.Path.{◌≡◌, refl, ap, sym, ◌∙◌}
 use mathlib.Core.Bool.{Bool, true, false, not}
 use mathlib.Core.List.{[], ◌∷◌, ◌++◌, append_assoc, append-nil}
@@ -9,21 +9,19 @@ use native.Mathlib.Omega.{arith}
 use borrow.Author.Tests.{le-leb, lt-leb, lt-ltb, le-ltb, ltb-false, leb-true, leb-false}
 use lib.Dec.{eqb, leb, ltb}
 use Rattle.std.specs.Option.{option_eq}
-use lib.ListN.{length, get_or, take, drop, set, length-set, length-append, length-take, length-drop}
-use lib.Seq.{take_all, take-suc, take-suc-set, length-take-le}
+use lib.ListN.{length, get_or, take, drop, set, length-append, length-take, length-drop}
+use lib.Seq.{take_all, take-suc, take-suc-set, length-take-le, take-append_seam}
 use Rattle.ascii.specs.Ascii.{Bytes, same}
 use Rattle.json_text.specs.Reader.{Read, got, bad, Reader, more, mapped, as_written, verbatim}
 use Rattle.json_text.specs.Utf8.{encode_utf8}
 use Rattle.json_text.specs.Lexical.{unescaped, escaped, read_char, read_chars, read_string}
-use Rattle.json_text.specs.code.Places.{Peeked, read_at, place_of, point_of, fit, content_of, push, push_read, held, is_text, Puts, PutsRead, is_on, is_stuck}
-use Rattle.json_text.proofs.Steps.{pairs, this, is_this, not_this, isnt_this, isnt_not, on, then_bad, one_yes, one_no, counted_at, place_mapped, found, missed}
+use Rattle.json_text.specs.code.Places.{Peeked, read_at, place_of, point_of, fit, content_of, push, push_read, is_text, PutsRead}
+use Rattle.json_text.specs.code.Held.{content}
+use Rattle.json_text.specs.declared.decoding.Decoded.{Decoded}
+use Rattle.json_text.proofs.Steps.{this, is_this, not_this, isnt_this, isnt_not, on, then_bad, one_yes, one_no, counted_at, place_mapped, found, missed}
 use Rattle.json_text.proofs.Chars.{char_wrong, char_code, char_raw, char_moves, chars_end, chars_stop, chars_step}
 
 -- ---- what is held
-
-empty_held : (bytes : Bytes) → held bytes 0 ≡ Some []
-unfolding held
-empty_held bytes = refl
 
 fit_is : (t : Bytes) → length t ≤ 512 → fit t ≡ Some t
 unfolding fit
@@ -32,14 +30,6 @@ fit_is t h = rw (le-leb (length t) 512 h)
 fit_not : (t : Bytes) → 512 < length t → fit t ≡ None
 unfolding fit
 fit_not t h = rw (lt-leb (length t) 512 h)
-
-push_nil : (bytes : Bytes) (n : ℕ) → push (held bytes n) [] ≡ held bytes n
-unfolding held
-push_nil bytes n = go (ltb 512 n) refl
-  where
-    go : (u : Bool) → ltb 512 n ≡ u → push (if u then None else Some (take n bytes)) [] ≡ (if u then None else Some (take n bytes))
-    go true e = unfold push in refl
-    go false e = unfold push in rw append-nil (fit_is (take n bytes) (simp length-take (omega (arith, ltb-false 512 n e))))
 
 push_push : (h : Option Bytes) (x y : Bytes) → push (push h x) y ≡ push h (x ++ y)
 unfolding push
@@ -52,76 +42,110 @@ push_push (Some t) x y = go (leb (length (t ++ x)) 512) refl
         let h : 512 < length (t ++ x) = leb-false (length (t ++ x)) 512 e in
         rw (fit_not (t ++ x) h, ← append_assoc) (sym (fit_not ((t ++ x) ++ y) (omega (arith, length-append (t ++ x) y))))
 
+module _ (d : Decoded) where
+  pub held_over : 512 < d.len → None ≡ content d
+  unfolding content
+  held_over h = rw (lt-ltb 512 d.len h)
+
+  pub held_all : {p : Bytes} → d.len ≤ 512 → p ≡ take d.len d.bytes → Some p ≡ content d
+  unfolding content
+  held_all h e = rw (le-ltb 512 d.len h, e)
+
+  pub holds_none : d.len ≡ 0 → content d ≡ Some []
+  unfolding content
+  holds_none h = rw h
+
+  pub content_short : length (unwrap_or (content d) []) ≤ 512
+  unfolding content
+  content_short = go (ltb 512 d.len) refl
+    where
+      go : (u : Bool) → ltb 512 d.len ≡ u → length (unwrap_or (if u then None else Some (take d.len d.bytes)) []) ≤ 512
+      go true e = omega arith
+      go false e = simp length-take (omega (arith, ltb-false 512 d.len e))
+
+  push_nil : push (content d) [] ≡ content d
+  unfolding content
+  push_nil = go (ltb 512 d.len) refl
+    where
+      go : (u : Bool) → ltb 512 d.len ≡ u → push (if u then None else Some (take d.len d.bytes)) [] ≡ (if u then None else Some (take d.len d.bytes))
+      go true e = unfold push in refl
+      go false e = unfold push in rw append-nil (fit_is (take d.len d.bytes) (simp length-take (omega (arith, ltb-false 512 d.len e))))
+
+  -- another string in the place of it
+  module _ (s : Bytes) (l : d.len ≡ length s) where
+    pub hold_over : 512 < length s → content d ≡ fit s
+    hold_over h = sym (held_over (omega arith)) ∙ sym (fit_not s h)
+
+    pub hold_all : (p t : Bytes) → length s ≤ 512 → d.bytes ≡ p ++ t → p ≡ s → content d ≡ fit s
+    hold_all p t h e w = sym (held_all (omega arith) (sym (rw (l, e, w) (take-append_seam s t)))) ∙ sym (fit_is s h)
+
 -- ---- one byte more
 
-module _ (bytes : Bytes) (n b : ℕ) where
-  no_room : (u : Bool) → 512 ≤ n → length bytes ≡ 512 → ltb 512 n ≡ u → push (if u then None else Some (take n bytes)) (b ∷ []) ≡ None
-  unfolding push
-  no_room true k w f = refl
-  no_room false k w f =
-      let m : n ≤ 512 = ltb-false 512 n f in
-      fit_not (take n bytes ++ b ∷ []) (omega (arith, length-append (take n bytes) (b ∷ []), length-take-le n bytes (omega arith)))
-
-  full_held : 512 ≤ n → length bytes ≡ 512 → held bytes 513 ≡ push (held bytes n) (b ∷ [])
-  unfolding held
-  full_held k w = sym (no_room (ltb 512 n) k w refl)
-
-  pub put_full : 512 ≤ n → Puts bytes n (b ∷ []) bytes 513
-  put_full k = record { kept = refl; is = λ w. full_held k w }
-
-  pub put_one : n < 512 → Puts bytes n (b ∷ []) (set bytes n b) (n + 1)
-  put_one k = record { kept = length-set bytes n b; is = λ w. one w }
+module _ (d e : Decoded) (b : ℕ) where
+  pub put_full : 512 ≤ d.len → 512 < e.len → content e ≡ push (content d) (b ∷ [])
+  put_full k m = sym (held_over e m) ∙ sym (no_room (ltb 512 d.len) refl)
     where
-      one : length bytes ≡ 512 → held (set bytes n b) (n + 1) ≡ push (held bytes n) (b ∷ [])
-      one w = unfold held push in
-          (rw (le-ltb 512 (n + 1) (omega arith), le-ltb 512 n (omega arith), add-one n, take-suc-set bytes n b (omega arith))
-          (sym (fit_is (take n bytes ++ b ∷ []) (omega (arith, length-append (take n bytes) (b ∷ []), length-take-le n bytes (omega arith))))))
+      no_room : (u : Bool) → ltb 512 d.len ≡ u → push (content d) (b ∷ []) ≡ None
+      no_room true f = unfold content push in (rw f)
+      no_room false f =
+          let m : d.len ≤ 512 = ltb-false 512 d.len f in
+          unfold content push in (rw f (fit_not (take d.len d.bytes ++ b ∷ []) (omega (arith, length-append (take d.len d.bytes) (b ∷ []), length-take-le d.len d.bytes (omega (arith, d.sized))))))
 
-puts_none : (out : Bytes) (n : ℕ) → Puts out n [] out n
-puts_none out n = record { kept = refl; is = λ w. sym (push_nil out n) }
+  pub put_one : d.len < 512 → e.len ≡ d.len + 1 → e.bytes ≡ set d.bytes d.len b → content e ≡ push (content d) (b ∷ [])
+  put_one h l s =
+      let t : take d.len d.bytes ++ b ∷ [] ≡ take e.len e.bytes = sym (rw (l, s, add-one d.len) (take-suc-set d.bytes d.len b (omega (arith, d.sized)))) in
+      sym (held_all e (omega arith) t) ∙ sym (fitting (length-append (take d.len d.bytes) (b ∷ [])))
+    where
+      fitting : length (take d.len d.bytes ++ b ∷ []) ≡ length (take d.len d.bytes) + 1 → push (content d) (b ∷ []) ≡ Some (take d.len d.bytes ++ b ∷ [])
+      fitting k = unfold content push in (rw (le-ltb 512 d.len (omega arith)) (fit_is (take d.len d.bytes ++ b ∷ []) (omega (arith, length-take-le d.len d.bytes (omega (arith, d.sized))))))
 
-puts_then : {before x out y after : Bytes} {n m r : ℕ} → Puts before n x out m → Puts out m y after r → Puts before n (x ++ y) after r
-puts_then {before} {x} {y} {n} P Q = record { kept = Q.kept ∙ P.kept; is = λ w. Q.is (P.kept ∙ w) ∙ ap (λ (h : Option Bytes). push h y) (P.is w) ∙ push_push (held before n) x y }
+-- the first bytes
+pub put_first : (x : Bytes) → push (Some []) x ≡ fit x
+unfolding push
+put_first x = refl
+
+puts_then : (before : Option Bytes) (x y : Bytes) {between after : Option Bytes} → between ≡ push before x → after ≡ push between y → after ≡ push before (x ++ y)
+puts_then before x y P Q = Q ∙ ap (λ (h : Option Bytes). push h y) P ∙ push_push before x y
 
 -- ---- a part more
 
 -- the first i bytes of the part x are put
-pub record Part (x before : Bytes) (n : ℕ) (out : Bytes) (m i : ℕ) : Type 0 where
-  pub is : Puts before n (take i x) out m
+pub record Part (x : Bytes) (before after : Option Bytes) (i : ℕ) : Type 0 where
+  pub is : after ≡ push before (take i x)
 
-pub part_starts : (x out : Bytes) (n : ℕ) → Part x out n out n 0
-part_starts x out n = record { is = puts_none out n }
+pub part_starts : (x : Bytes) (d : Decoded) → Part x (content d) (content d) 0
+part_starts x d = record { is = sym (push_nil d) }
 
-module _ {x before : Bytes} {n : ℕ} {out : Bytes} {m i : ℕ} (P : Part x before n out m i) where
-  pub part_end : {y : Bytes} → length x ≤ i → x ≡ y → Puts before n y out m
+module _ {x : Bytes} {before between : Option Bytes} {i : ℕ} (P : Part x before between i) where
+  pub part_end : {y : Bytes} → length x ≤ i → x ≡ y → between ≡ push before y
   part_end h e = rw (take_all i x h, e) at P.is
 
-  pub part_more : {o : Bytes} {k : ℕ} → i < length x → Puts out m (get_or x i 0 ∷ []) o k → Part x before n o k (i + 1)
-  part_more h Q = record { is = rw (add-one i, take-suc x i 0 h) (puts_then P.is Q) }
+  pub part_more : {after : Option Bytes} → i < length x → after ≡ push between (get_or x i 0 ∷ []) → Part x before after (i + 1)
+  part_more h Q = record { is = rw (add-one i, take-suc x i 0 h) (puts_then before (take i x) (get_or x i 0 ∷ []) P.is Q) }
 
 -- ---- a code point more
 
-module _ (c : ℕ) {a : Bytes} {n : ℕ} where
-  pub code_one : {z : Bytes} {r : ℕ} → c < 0x80 → Puts a n (c ∷ []) z r → Puts a n (encode_utf8 c) z r
+module _ (c : ℕ) (a : Option Bytes) where
+  pub code_one : {z : Option Bytes} → c < 0x80 → z ≡ push a (c ∷ []) → z ≡ push a (encode_utf8 c)
   unfolding encode_utf8
   code_one h P = rw (lt-ltb c 0x80 h) P
 
-  pub code_two : {b z : Bytes} {m r : ℕ} → 0x80 ≤ c → c < 0x800
-      → Puts a n ((0xC0 + c / 64) ∷ []) b m → Puts b m ((0x80 + c % 64) ∷ []) z r → Puts a n (encode_utf8 c) z r
+  pub code_two : {b z : Option Bytes} → 0x80 ≤ c → c < 0x800
+      → b ≡ push a ((0xC0 + c / 64) ∷ []) → z ≡ push b ((0x80 + c % 64) ∷ []) → z ≡ push a (encode_utf8 c)
   unfolding encode_utf8
-  code_two h k P Q = rw (le-ltb c 0x80 h, lt-ltb c 0x800 k) (puts_then P Q)
+  code_two h k P Q = rw (le-ltb c 0x80 h, lt-ltb c 0x800 k) (puts_then _ _ _ P Q)
 
-  pub code_three : {b d z : Bytes} {m k r : ℕ} → 0x800 ≤ c → c < 0x10000
-      → Puts a n ((0xE0 + c / 4096) ∷ []) b m → Puts b m ((0x80 + c / 64 % 64) ∷ []) d k
-      → Puts d k ((0x80 + c % 64) ∷ []) z r → Puts a n (encode_utf8 c) z r
+  pub code_three : {b d z : Option Bytes} → 0x800 ≤ c → c < 0x10000
+      → b ≡ push a ((0xE0 + c / 4096) ∷ []) → d ≡ push b ((0x80 + c / 64 % 64) ∷ [])
+      → z ≡ push d ((0x80 + c % 64) ∷ []) → z ≡ push a (encode_utf8 c)
   unfolding encode_utf8
-  code_three h k P Q R = rw (le-ltb c 0x80 (omega arith), le-ltb c 0x800 h, lt-ltb c 0x10000 k) (puts_then P (puts_then Q R))
+  code_three h k P Q R = rw (le-ltb c 0x80 (omega arith), le-ltb c 0x800 h, lt-ltb c 0x10000 k) (puts_then _ _ _ P (puts_then _ _ _ Q R))
 
-  pub code_four : {b d e z : Bytes} {m k l r : ℕ} → 0x10000 ≤ c
-      → Puts a n ((0xF0 + c / 262144 % 8) ∷ []) b m → Puts b m ((0x80 + c / 4096 % 64) ∷ []) d k
-      → Puts d k ((0x80 + c / 64 % 64) ∷ []) e l → Puts e l ((0x80 + c % 64) ∷ []) z r → Puts a n (encode_utf8 c) z r
+  pub code_four : {b d e z : Option Bytes} → 0x10000 ≤ c
+      → b ≡ push a ((0xF0 + c / 262144 % 8) ∷ []) → d ≡ push b ((0x80 + c / 4096 % 64) ∷ [])
+      → e ≡ push d ((0x80 + c / 64 % 64) ∷ []) → z ≡ push e ((0x80 + c % 64) ∷ []) → z ≡ push a (encode_utf8 c)
   unfolding encode_utf8
-  code_four h P Q R S = rw (le-ltb c 0x80 (omega arith), le-ltb c 0x800 (omega arith), le-ltb c 0x10000 h) (puts_then P (puts_then Q (puts_then R S)))
+  code_four h P Q R S = rw (le-ltb c 0x80 (omega arith), le-ltb c 0x800 (omega arith), le-ltb c 0x10000 h) (puts_then _ _ _ P (puts_then _ _ _ Q (puts_then _ _ _ R S)))
 
 -- ---- a character more
 
@@ -143,29 +167,42 @@ pub verbatim_bad : {A : Type 0} (p : Reader A) (s : Bytes) (i : ℕ) → read_at
 unfolding read_at verbatim
 verbatim_bad p s i e = written_bad i (drop i s) (p (drop i s)) e
 
-module _ (s : Bytes) (i : ℕ) {before out : Bytes} {n : ℕ} {b : Option ℕ} {u : Bool} (g : Peeked s i b) (t : u ≡ option_eq eqb b (Some 92)) where
-  module _ (h : u ≡ true) {q : Option (ℕ × ℕ)} (e : q ≡ point_of (read_at escaped s (i + 1))) where
-    pub held_wrong : q ≡ None → PutsRead before n (read_at read_char s i) out None
-    held_wrong k = is_stuck (char_wrong g (this b 92 t h) e k)
+-- nothing is read
+reads_bad : {before after : Option Bytes} {read : Read Bytes} → read ≡ bad → PutsRead before read after None
+reads_bad {before} {after} {read} e = record { place = sym (nowhere e); is = λ f. let z : ◌≡◌ {A = ℕ} 0 1 = cc in absurd (omega arith) }
+  where
+    nowhere : read ≡ bad → place_of read ≡ None
+    nowhere e = unfold place_of in (rw e)
 
-    pub held_code : {c m j : ℕ} → q ≡ Some (c, j) → Puts before n (encode_utf8 c) out m → PutsRead before n (read_at read_char s i) out (Some (m, j))
-    held_code k P = is_on (char_code g (this b 92 t h) e k) P
+-- x is read
+reads_got : {before after : Option Bytes} {read : Read Bytes} {x : Bytes} {j : ℕ} → read ≡ got x j → after ≡ push before x → PutsRead before read after (Some j)
+reads_got {before} {after} {read} {x} {j} e P = record { place = sym (there e); is = λ {x = y} f. let z : x ≡ y = cc in rw z at P }
+  where
+    there : read ≡ got x j → place_of read ≡ Some j
+    there e = unfold place_of in (rw e)
+
+module _ (s : Bytes) (i : ℕ) {before after : Option Bytes} {b : Option ℕ} {u : Bool} (g : Peeked s i b) (t : u ≡ option_eq eqb b (Some 92)) where
+  module _ (h : u ≡ true) {q : Option (ℕ × ℕ)} (e : q ≡ point_of (read_at escaped s (i + 1))) where
+    pub held_wrong : q ≡ None → PutsRead before (read_at read_char s i) after None
+    held_wrong k = reads_bad (char_wrong g (this b 92 t h) e k)
+
+    pub held_code : {c j : ℕ} → q ≡ Some (c, j) → after ≡ push before (encode_utf8 c) → PutsRead before (read_at read_char s i) after (Some j)
+    held_code k P = reads_got (char_code g (this b 92 t h) e k) P
 
   module _ (w : u ≡ false) {q : Option ℕ} (e : q ≡ place_of (read_at unescaped s i)) where
-    pub held_no : q ≡ None → PutsRead before n (read_at read_char s i) out None
-    held_no k = is_stuck (char_raw g (not_this b 92 (omega arith) t w) ∙ verbatim_bad unescaped s i (missed _ e k))
+    pub held_no : q ≡ None → PutsRead before (read_at read_char s i) after None
+    held_no k = reads_bad (char_raw g (not_this b 92 (omega arith) t w) ∙ verbatim_bad unescaped s i (missed _ e k))
 
-    pub held_plain : {m j : ℕ} → q ≡ Some j → Puts before n (take (j - i) (drop i s)) out m → PutsRead before n (read_at read_char s i) out (Some (m, j))
-    held_plain k P = is_on (char_raw g (not_this b 92 (omega arith) t w) ∙ verbatim_at unescaped s i (found _ e k).1) P
+    pub held_plain : {j : ℕ} → q ≡ Some j → after ≡ push before (take (j - i) (drop i s)) → PutsRead before (read_at read_char s i) after (Some j)
+    held_plain k P = reads_got (char_raw g (not_this b 92 (omega arith) t w) ∙ verbatim_at unescaped s i (found _ e k).1) P
 
 -- ---- a whole string
 
 -- at i the loop is among the characters: what is held and the characters from there on make the string
-pub record Decodes (s : Bytes) (from : ℕ) (before out : Bytes) (n i : ℕ) : Type 0 where
-  pub kept : length out ≡ length before
+pub record Decodes (s : Bytes) (from : ℕ) (so_far : Option Bytes) (i : ℕ) : Type 0 where
   pub fuel : ℕ
   pub enough : length s - i ≤ fuel
-  pub held_is : length before ≡ 512 → push_read (held out n) (read_at (read_chars (suc fuel)) s i) ≡ push_read (Some []) (read_at read_string s from)
+  pub held_is : push_read so_far (read_at (read_chars (suc fuel)) s i) ≡ push_read (Some []) (read_at read_string s from)
   pub end_is : place_of (read_at (read_chars (suc fuel)) s i) ≡ place_of (read_at read_string s from)
 
 push_on : (h : Option Bytes) (c : Bytes) (r : Read Bytes) → push_read h (mapped (λ cs. c ++ cs) r) ≡ push_read (push h c) r
@@ -174,95 +211,71 @@ push_on h c (got cs n) = sym (push_push h c cs)
 push_on h c bad = refl
 
 module _ {s : Bytes} {from : ℕ} {b : Option ℕ} {u : Bool} (g : Peeked s from b) (t : u ≡ not (option_eq eqb b (Some 34))) where
-  pub decode_wrong : (before out : Bytes) → u ≡ true → PutsRead before 0 (read_at read_string s from) out None
+  pub decode_wrong : (before after : Option Bytes) → u ≡ true → PutsRead before (read_at read_string s from) after None
   unfolding read_string
-  decode_wrong before out h = is_stuck (then_bad _ _ _ _ (one_no g _ (isnt_this b 34 (omega arith) t h)))
+  decode_wrong before after h = reads_bad (then_bad _ _ _ _ (one_no g _ (isnt_this b 34 (omega arith) t h)))
 
-  pub decode_starts : (out : Bytes) → u ≡ false → Decodes s from out out 0 (from + 1)
+  pub decode_starts : (d : Decoded) → u ≡ false → d.len ≡ 0 → Decodes s from (content d) (from + 1)
   unfolding read_string
-  decode_starts out h =
+  decode_starts d h l =
       let z : read_at read_string s from ≡ read_at (read_chars (suc (length (drop (from + 1) s)))) s (from + 1) =
       on _ _ _ _ (one_yes g _ (isnt_not b 34 t h)) ∙ counted_at read_chars s (from + 1) in
-      record { kept = refl; fuel = length (drop (from + 1) s); enough = simp length-drop (omega arith); held_is = λ w. rw (empty_held out, z); end_is = rw z }
+      record { fuel = length (drop (from + 1) s); enough = simp length-drop (omega arith); held_is = rw (holds_none d l, z); end_is = rw z }
 
--- what is held at the end is the string
-whole_read : (before out : Bytes) (n j : ℕ) (r : Read Bytes) → length out ≡ length before → (length before ≡ 512 → held out n ≡ push_read (Some []) r) → Some j ≡ place_of r → PutsRead before 0 r out (Some (n, j))
-unfolding push_read place_of
-whole_read before out n j (got c k) l h e =
-    let z : j ≡ k = cc in
-    rw z (is_on refl (record { kept = l; is = λ w. h w ∙ ap (λ (x : Option Bytes). push x c) (sym (empty_held before)) }))
-whole_read before out n j bad l h e = let z : ◌≡◌ {A = ℕ} 0 1 = cc in absurd (omega arith)
+module _ {s : Bytes} {from i : ℕ} (d : Decoded) {b : Option ℕ} {u : Bool} (L : Decodes s from (content d) i) (g : Peeked s i b) (t : u ≡ option_eq eqb b (Some 34)) where
+  -- what is held at the end is the string
+  pub decode_end : u ≡ true → PutsRead (Some []) (read_at read_string s from) (content d) (Some (i + 1))
+  decode_end h = record {
+    place = unfold place_of in (rw (chars_end g L.fuel (is_this b 34 t h)) at L.end_is);
+    is = λ e. sym (push_nil d) ∙ whole (chars_end g L.fuel (is_this b 34 t h)) e L.held_is;
+  }
+    where
+      whole : {r q : Read Bytes} {j k : ℕ} {x : Bytes} → r ≡ got [] k → q ≡ got x j → push_read (content d) r ≡ push_read (Some []) q → push (content d) [] ≡ push (Some []) x
+      whole e f p = unfold push_read in (rw (e, f) at p)
 
-module _ {s : Bytes} {from : ℕ} {before out : Bytes} {n i : ℕ} {b : Option ℕ} {u : Bool} (L : Decodes s from before out n i) (g : Peeked s i b) (t : u ≡ option_eq eqb b (Some 34)) where
-  pub decode_end : u ≡ true → PutsRead before 0 (read_at read_string s from) out (Some (n, i + 1))
-  decode_end h =
-      whole_read before out n (i + 1) (read_at read_string s from) L.kept
-      (λ w. sym (push_nil out n) ∙ unfold push_read in (rw (chars_end g L.fuel (is_this b 34 t h)) at (L.held_is w)))
-      (unfold place_of in (rw (chars_end g L.fuel (is_this b 34 t h)) at L.end_is))
-
-  module _ {o : Bytes} {r : Option (ℕ × ℕ)} (h : u ≡ false) (H : PutsRead out n (read_at read_char s i) o r) where
-    no_char : r ≡ None → read_at read_char s i ≡ bad
-    no_char k = go H k
-      where
-        go : {r : Option (ℕ × ℕ)} → PutsRead out n (read_at read_char s i) o r → r ≡ None → read_at read_char s i ≡ bad
-        go (is_stuck e) k = e
-        go (is_on e f) k = let z : ◌≡◌ {A = ℕ} 0 1 = cc in absurd (omega arith)
-
-    pub decode_bad : (after : Bytes) → r ≡ None → PutsRead before 0 (read_at read_string s from) after None
+  module _ (e : Decoded) {r : Option ℕ} (h : u ≡ false) (H : PutsRead (content d) (read_at read_char s i) (content e) r) where
+    pub decode_bad : (after : Option Bytes) → r ≡ None → PutsRead (Some []) (read_at read_string s from) after None
     decode_bad after k =
-        let e : None ≡ place_of (read_at read_string s from) = unfold place_of in (rw (chars_stop g L.fuel (not_this b 34 (omega arith) t h) (no_char k)) at L.end_is) in
-        is_stuck (missed _ e refl)
+        let z : None ≡ place_of (read_at read_string s from) = unfold place_of in (rw (chars_stop g L.fuel (not_this b 34 (omega arith) t h) (missed _ H.place k)) at L.end_is) in
+        reads_bad (missed _ z refl)
 
-    module _ {m j : ℕ} (k : r ≡ Some (m, j)) where
-      char_here : (c : Bytes) × (read_at read_char s i ≡ got c j) × Puts out n c o m
-      char_here = go H k
-        where
-          go : {r : Option (ℕ × ℕ)} → PutsRead out n (read_at read_char s i) o r → r ≡ Some (m, j)
-              → (c : Bytes) × (read_at read_char s i ≡ got c j) × Puts out n c o m
-          go (is_stuck e) k = let z : ◌≡◌ {A = ℕ} 0 1 = cc in absurd (omega arith)
-          go (is_on {c} {m = p} {j = q} e f) k =
-              let x = pairs k in
-              let y : p ≡ m = x.0 in
-              let z : q ≡ j = x.1 in
-              (c, rw z at e, rw y at f)
+    module _ {j : ℕ} (k : r ≡ Some j) where
+      char_here : (c : Bytes) × (read_at read_char s i ≡ got c j)
+      char_here = found _ H.place k
 
       pub decode_less : length s - j < length s - i
       decode_less = omega (arith, char_moves s i char_here.1)
 
-      pub decode_more : Decodes s from before o m j
+      pub decode_more : Decodes s from (content e) j
       decode_more =
           let f = char_here in
           let l : length s - j < length s - i = decode_less in
           let p : L.fuel ≡ suc (L.fuel - 1) = omega (arith, L.enough) in
           let R : Read Bytes = read_at (read_chars L.fuel) s j in
-          let y : length before ≡ 512 → push_read (held o m) R ≡ push_read (Some []) (read_at read_string s from) =
-          λ w. rw (f.2.is (L.kept ∙ w)) (sym (push_on (held out n) f.0 R) ∙ rw (chars_step g L.fuel (not_this b 34 (omega arith) t h) f.1) at (L.held_is w)) in
+          let y : push_read (content e) R ≡ push_read (Some []) (read_at read_string s from) =
+          rw (H.is f.1) (sym (push_on (content d) f.0 R) ∙ rw (chars_step g L.fuel (not_this b 34 (omega arith) t h) f.1) at L.held_is) in
           let z : place_of R ≡ place_of (read_at read_string s from) = sym (place_mapped (λ cs. f.0 ++ cs) R) ∙ rw (chars_step g L.fuel (not_this b 34 (omega arith) t h) f.1) at L.end_is in
-          record { kept = f.2.kept ∙ L.kept; fuel = L.fuel - 1; enough = omega (arith, L.enough); held_is = rw (← p) y; end_is = rw (← p) z }
+          record { fuel = L.fuel - 1; enough = omega (arith, L.enough); held_is = rw (← p) y; end_is = rw (← p) z }
 
 -- ---- names
 
-module _ (s : Bytes) (from : ℕ) (name : Bytes) {before after : Bytes} {r : Option (ℕ × ℕ)} (H : PutsRead before 0 (read_at read_string s from) after r) where
+module _ (s : Bytes) (from : ℕ) (name : Bytes) {h : Option Bytes} {r : Option ℕ} (H : PutsRead (Some []) (read_at read_string s from) h r) where
   pub name_wrong : r ≡ None → false ≡ is_text (content_of (read_at read_string s from)) name
-  name_wrong k = go H k
+  name_wrong k = go (missed _ H.place k)
     where
-      go : {r : Option (ℕ × ℕ)} → PutsRead before 0 (read_at read_string s from) after r → r ≡ None → false ≡ is_text (content_of (read_at read_string s from)) name
-      go (is_stuck e) k = unfold content_of is_text in (rw e)
-      go (is_on e f) k = let z : ◌≡◌ {A = ℕ} 0 1 = cc in absurd (omega arith)
+      go : read_at read_string s from ≡ bad → false ≡ is_text (content_of (read_at read_string s from)) name
+      go e = unfold content_of is_text in (rw e)
 
-  module _ {n j : ℕ} (k : r ≡ Some (n, j)) (w : length before ≡ 512) where
-    name_held : is_text (content_of (read_at read_string s from)) name ≡ is_text (held after n) name
-    name_held = go H k
+  module _ {j : ℕ} (k : r ≡ Some j) where
+    name_held : content_of (read_at read_string s from) ≡ h
+    name_held = go (found _ H.place k)
       where
-        go : {r : Option (ℕ × ℕ)} → PutsRead before 0 (read_at read_string s from) after r → r ≡ Some (n, j) → is_text (content_of (read_at read_string s from)) name ≡ is_text (held after n) name
-        go (is_stuck e) k = let z : ◌≡◌ {A = ℕ} 0 1 = cc in absurd (omega arith)
-        go (is_on {c} {m} e f) k =
-            let y : m ≡ n = (pairs k).0 in
-            let h : held after n ≡ push (held before 0) c = rw y at (f.is w) in
-            rw (e, h, empty_held before) (unfold content_of push in refl)
+        go : (x : Bytes) × (read_at read_string s from ≡ got x j) → content_of (read_at read_string s from) ≡ h
+        go f = unfold content_of in (rw f.1 (sym (H.is f.1 ∙ put_first f.0)))
 
-    pub name_over : 512 < n → false ≡ is_text (content_of (read_at read_string s from)) name
-    name_over l = sym (name_held ∙ unfold held is_text in (rw (lt-ltb 512 n l)))
+    module _ {T : Type 0} (f : T → Bytes) {q : Option T} (e : option_map f q ≡ h) where
+      pub name_over : q ≡ None → false ≡ is_text (content_of (read_at read_string s from)) name
+      name_over l = sym (ap (λ (x : Option Bytes). is_text x name) (name_held ∙ sym e ∙ ap (option_map f) l) ∙ unfold is_text in refl)
 
-    pub name_told : {p : Bytes} {q : Bool} → n ≤ 512 → p ≡ take n after → q ≡ same p name → q ≡ is_text (content_of (read_at read_string s from)) name
-    name_told l h e = e ∙ ap (λ (x : Bytes). same x name) h ∙ sym (name_held ∙ unfold held is_text in (rw (le-ltb 512 n l)))
+      pub name_told : {t : T} {u : Bool} → q ≡ Some t → u ≡ same (f t) name → u ≡ is_text (content_of (read_at read_string s from)) name
+      name_told l w = w ∙ sym (ap (λ (x : Option Bytes). is_text x name) (name_held ∙ sym e ∙ ap (option_map f) l) ∙ unfold is_text in refl)

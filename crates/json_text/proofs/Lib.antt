@@ -1,4 +1,5 @@
 pub mod Steps
+pub mod TakenApart
 pub mod Scan
 pub mod Words
 pub mod NumberSteps

@@ -159,10 +159,6 @@ wide_is q n e h = ap wide (this q n e h)
 pub wide_isnt : {w : Bool} (q : Option ℕ) (n : ℕ) → w ≡ not (option_eq eqb q (Some n)) → w ≡ false → wide q ≡ n
 wide_isnt q n e h = ap wide (told_not q n e h)
 
-pub wide_some : (q : Option ℕ) (n : ℕ) → n < 256 → wide q ≡ n → q ≡ Some n
-wide_some None n l e = absurd (omega arith)
-wide_some (Some b) n l e = ap Some e
-
 pub among_not : (b n : ℕ) → among (n ∷ []) b ≡ false → b ≡ n → ⊥
 among_not b n e h = let z : true ≡ false = sym (is_one b n h) ∙ e in let y : ◌≡◌ {A = ℕ} 0 1 = cc in omega arith
 

@@ -12,15 +12,10 @@ ghost use Rattle.json_text.specs.Reader.{got, word};
 ghost use Rattle.json_text.specs.Lexical.{is_blank, ws};
 ghost use Rattle.json_text.specs.code.Places.{Peeked, read_at, place_of};
 
-// A decoded string, held by value where it has at most 512 bytes (document 01, "The list"); a length above 512 says
-// that it has more.
-#[derive(Clone, Copy)]
-pub struct Decoded {
-    pub bytes: [u8; 512],
-    pub len: usize,
-}
+pub use decoding::Decoded;
 
-// The byte at a place; None past the end.
+// The byte at a place; None past the end. A text and a place in it are two arguments, here and in the crates above: a struct of both
+// would be made anew at each step, and taken apart in it.
 pub fn byte_at(s: &[u8], at: usize) -> Option<u8>
     ensures { Peeked s.now at result }
 {
@@ -34,20 +29,16 @@ pub fn is_blank(b: u8) -> bool
     matches!(b, b' ' | b'\t' | b'\n' | b'\r')
 }
 
-// The place behind the blanks at a place. A loop of its own: with a test that is passed to it, as `ascii::run_end` has, it was 1.2 to
-// 2.7 times slower.
+// The place behind the blanks at a place; most often there is none.
 pub fn skip_blanks(s: &[u8], from: usize) -> usize
     ensures { read_at ws s.now from ≡ got tt result }
 {
-    let mut i = from;
-    while i < s.len() {
-        if is_blank(s[i]) {
-            i += 1;
-        } else {
-            return i;
+    if from < s.len() {
+        if is_blank(s[from]) {
+            return ascii::run_end(s, from + 1, is_blank);
         }
     }
-    i
+    from
 }
 
 // The bytes of w, skipped.

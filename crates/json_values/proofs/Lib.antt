@@ -1,6 +1,7 @@
-pub mod Items
-pub mod Listing
+pub mod Readings
+pub mod Folding
 pub mod Values
+pub mod NameLaws
 pub mod Sizes
 pub mod Rereads
 pub mod Valid

@@ -1,4 +1,4 @@
--- The ways through a value, a member and a whole text.
+-- The ways through a value and a whole text.
 use Rattle.std.specs.Prelude.{Option, Some, None, SomeIff}
 use mathlib.Core.Path.{◌≡◌, refl, ap, sym, ◌∙◌}
 use mathlib.Core.Bool.{Bool, true, false, not}
@@ -7,8 +7,7 @@ use Prim.Native.Nat.{ℕ, zero, suc, ◌+◌, ◌-◌, ◌≤◌, ◌<◌}
 use native.Mathlib.Omega.{arith}
 use lib.ListN.{length, drop_of_length-le}
 use lib.Seq.{drop-cons}
-use lib.Dec.{eqb, leb}
-use Rattle.std.specs.Option.{option_eq}
+use lib.Dec.{leb}
 use Rattle.json_text.proofs.NumberSteps.{number_gone}
 use borrow.Author.Tests.{leb-true, leb-false}
 use native.Mathlib.Nat.{add-zero}
@@ -17,7 +16,7 @@ use Rattle.json_text.specs.Reader.{Read, got, bad, Reader, more, fail, end_of_te
 use Rattle.json_text.specs.Lexical.{ws, read_number, read_string}
 use Rattle.json_values.specs.Json.{Json, literal, number, string, listed, read_member, read_array, read_object, value_of, read_value, read_text, value_read, read_json}
 use Rattle.json_text.specs.code.Places.{Peeked, read_at, place_of}
-use Rattle.json_text.proofs.Steps.{seen, here, gone, isnt_this, isnt_not, on, then_bad, one_yes, one_no, next_no, give_at, fail_at, place_giving, place_verbatim, found, missed, is_one, not_one}
+use Rattle.json_text.proofs.Steps.{seen, here, gone, on, then_bad, one_yes, next_no, give_at, fail_at, place_giving, place_verbatim, found, missed, is_one, not_one}
 
 -- ---- values
 
@@ -130,22 +129,6 @@ module _ {s : Bytes} {i : ℕ} {x : Option ℕ} {b : ℕ} (d : ℕ) (p : Peeked 
   pub value_deep_object : {r : Option ℕ} → b ≡ 123 → SomeIff r (1 ≤ d) (d - 1) → r ≡ None → None ≡ place_of (read_at (read_value d) s i)
   unfolding place_of
   value_deep_object h t u = rw (value_none d (none_less d t u), is_object o _ _ h, fail_at)
-
--- ---- members
-
-module _ (p : Reader Json) (s : Bytes) (i : ℕ) {q : Option ℕ} (e : q ≡ place_of (read_at read_string s i)) where
-  pub member_bad : q ≡ None → None ≡ place_of (read_at (read_member p) s i)
-  unfolding read_member place_of
-  member_bad h = rw (then_bad _ _ _ _ (missed _ e h))
-
-  module _ {j k : ℕ} {b : Option ℕ} {w : Bool} (h : q ≡ Some j) (f : read_at ws s j ≡ got tt k) (g : Peeked s k b) (t : w ≡ not (option_eq eqb b (Some 58))) where
-    pub member_other : w ≡ true → None ≡ place_of (read_at (read_member p) s i)
-    unfolding read_member place_of
-    member_other n = rw (on _ _ _ _ (found _ e h).1, on _ _ _ _ f, then_bad _ _ _ _ (one_no g _ (isnt_this b 58 (omega arith) t n)))
-
-    pub member_on : {m : ℕ} {r : Option ℕ} → w ≡ false → read_at ws s (k + 1) ≡ got tt m → r ≡ place_of (read_at p s m) → r ≡ place_of (read_at (read_member p) s i)
-    unfolding read_member
-    member_on n u v = rw (on _ _ _ _ (found _ e h).1, on _ _ _ _ f, on _ _ _ _ (one_yes g _ (isnt_not b 58 t n)), on _ _ _ _ u, place_giving) v
 
 -- ---- a whole text
 

@@ -4,7 +4,8 @@
 ghost use Rattle.std.specs.Prelude.{◌≡◌, not};
 ghost use Rattle.ascii.specs.Ascii.{is_none};
 ghost use Rattle.json_values.specs.Json.{read_member, read_value, read_json};
-ghost use Rattle.json_values.specs.code.Skips.{GoesOn, SkipsListed};
+ghost use Rattle.json_values.specs.code.MemberName.{member_name};
+ghost use Rattle.json_values.specs.code.Folds.{reading, GoesOn, Unheld, FoldsListed, SkipsListed};
 ghost use Rattle.json_text.specs.code.Places.{read_at, place_of};
 
 // A value with at most `left` arrays and objects open together.
@@ -44,10 +45,9 @@ pub fn skip_value(s: &[u8], from: usize, left: usize) -> Option<usize>
     }
 }
 
-// A name, a colon and a value.
-#[cycle(skip_value)]
-fn skip_member(s: &[u8], from: usize, left: usize) -> Option<usize>
-    ensures { result ≡ place_of (read_at (read_member (read_value left)) s.now from) }
+// The place of a member's value, behind its name and the colon.
+pub fn skip_name(s: &[u8], from: usize) -> Option<usize>
+    ensures { result ≡ place_of (read_at member_name s.now from) }
 {
     let i = json_text::strings::skip_string(s, from)?;
     let j = json_text::skip_blanks(s, i);
@@ -55,6 +55,15 @@ fn skip_member(s: &[u8], from: usize, left: usize) -> Option<usize>
         return None;
     }
     let k = json_text::skip_blanks(s, j + 1);
+    Some(k)
+}
+
+// A name, a colon and a value.
+#[cycle(skip_value)]
+fn skip_member(s: &[u8], from: usize, left: usize) -> Option<usize>
+    ensures { result ≡ place_of (read_at (read_member (read_value left)) s.now from) }
+{
+    let k = skip_name(s, from)?;
     skip_value(s, k, left)
 }
 
@@ -66,25 +75,56 @@ fn skip_listed<F: Fn(usize) -> Option<usize>>(
     skip: F,
 ) -> Option<usize>
     requires callable { F.IsAlwaysCallable skip }
-    requires ahead { GoesOn (F.post skip) }
+    requires ahead { GoesOn (Unheld (F.post skip)) }
     ensures { SkipsListed (F.post skip) s.now from close result }
+{
+    let (j, _) = fold_listed(
+        s,
+        from,
+        close,
+        (),
+        |at: usize, nothing: ()| -> Option<(usize, ())>
+            requires { F.IsAlwaysCallable skip }
+            ensures { F.post skip at (place_of (reading result)) }
+        {
+            let j = skip(at)?;
+            Some((j, nothing))
+        },
+    )?;
+    Some(j)
+}
+
+// What follows the opening byte of an array or an object: items that `item` reads one after another, and the byte that
+// closes. `item` takes the place of an item and what is held of those before it, from `start` on.
+pub fn fold_listed<A: Copy, F: Fn(usize, A) -> Option<(usize, A)>>(
+    s: &[u8],
+    from: usize,
+    close: u8,
+    start: A,
+    item: F,
+) -> Option<(usize, A)>
+    requires callable { F.IsAlwaysCallable item }
+    requires ahead { GoesOn (F.post item) }
+    ensures { FoldsListed (F.post item) s.now from close start result }
 {
     let first = json_text::skip_blanks(s, from);
     if json_text::byte_at(s, first) == Some(close) {
-        return Some(first + 1);
+        return Some((first + 1, start));
     }
     let mut at = first;
-    // element after element, each of which says where it ends
+    let mut held = start;
+    // item after item, each of which says where it ends
     loop {
-        let j = skip(at)?;
+        let (j, now) = item(at, held)?;
         let k = json_text::skip_blanks(s, j);
         let b = json_text::byte_at(s, k);
         if b == Some(close) {
-            return Some(k + 1);
+            return Some((k + 1, now));
         }
         if b != Some(b',') {
             return None;
         }
+        held = now;
         at = json_text::skip_blanks(s, k + 1);
     }
 }

@@ -174,18 +174,13 @@ told_good w e f = record { is = go (is_none (read_line w)) (sym e ∙ f) }
     go true z = true_false (sym z)
     go false z = refl
 
-pub line_good : (h w : Bytes) {b : Bool} {r : Sizes} → FindsLine h w r → b ≡ is_good w → b ≡ true → Some r ≡ best_of (labels h) (read_line w)
-line_good h w F e f = F.is (told_good w e f)
-
-pub line_bad : (h w : Bytes) {b : Bool} → b ≡ is_good w → b ≡ false → None ≡ best_of (labels h) (read_line w)
+pub told_bad : (w : Bytes) {b : Bool} → b ≡ is_good w → b ≡ false → read_line w ≡ None
 unfolding is_good
-line_bad h w e f = go (read_line w) (sym e ∙ f)
+told_bad w e f = go (read_line w) (sym e ∙ f)
   where
-    go : (o : Option (List Rule)) → not (is_none o) ≡ false → None ≡ best_of (labels h) o
-    go None z = unfold best_of in refl
+    go : (o : Option (List Rule)) → not (is_none o) ≡ false → o ≡ None
+    go None z = refl
     go (Some rs) z = true_false z
-
-pub ruleset line_laws = (line_good, line_bad, rules)
 
 -- ---- whether it goes deeper
 

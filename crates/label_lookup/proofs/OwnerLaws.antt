@@ -5,6 +5,7 @@ use Rattle.std.specs.Prelude.{Option, None, Some}
 use Prim.Native.Nat.{ℕ, ◌-◌}
 use lib.ListN.{length, take, drop}
 use borrow.Author.Rules.{rules}
+use Rattle.ascii.specs.declared.Span.{Span}
 use Rattle.ascii.specs.Ascii.{Bytes}
 use Rattle.hosts.proofs.Ends.{true_false}
 use Rattle.hosts.proofs.Places.{rest_whole}
@@ -54,15 +55,15 @@ module _ {table host : Bytes} {q : Option Lookup} (Q : LookupIs table host q) wh
         go None a b = unfold deeper_than in (true_false (sym a))
         go (Some x) a b = ap Some (sym b)
 
-    pub owner_deeper : {i j : ℕ} → l.goes_deeper ≡ true → Spans table (take (length host - l.start) (drop l.start host)) i j
-        → OwnerIs table host (Some (owner l.start (Some (record { sizes = l.sizes; from = i; to = j }))))
-    owner_deeper {i} {j} p S = owner_is L.good (record {
+    pub owner_deeper : {r : Span} → l.goes_deeper ≡ true → Spans table (take (length host - l.start) (drop l.start host)) r.from r.to
+        → OwnerIs table host (Some (owner l.start (Some (record { sizes = l.sizes; span = r }))))
+    owner_deeper {r} p S = owner_is L.good (record {
       place = L.label.place;
       present_is = sym p ∙ L.label.deeper_is;
       held = λ h t. rw (← ap (deeper_in h) t) whole;
     })
       where
-        whole : Held table host (drop l.start host) (record { sizes = l.sizes; from = i; to = j })
+        whole : Held table host (drop l.start host) (record { sizes = l.sizes; span = r })
         whole = record { label_is = some_label p; found = sym L.label.found; spans = rw (rest_whole host l.start) at S }
 
 pub ruleset owner_laws = (owner_bad, owner_label, owner_deeper, rules)

@@ -1,11 +1,12 @@
 -- The laws of the pass over the table, for `search pass_laws`. Assumes nothing.
 use borrow.Author.Rules.{rules}
-use Rattle.suffix.proofs.Climbs.{past_is, line_good}
+use Rattle.suffix.proofs.Climbs.{past_is}
 use Rattle.suffix.proofs.IdleLines.{tail_whole}
+use Rattle.label_lookup.proofs.FindLaws.{told_good}
 use Rattle.label_lookup.proofs.RoundLaws.{deeps_long, line_wrong, line_found, round_starts, round_ends, part_end, round_fits, round_wrong}
 
 pub ruleset pass_laws = (
-  line_good,
+  told_good,
   past_is,
   part_end,
   line_wrong,

@@ -1,4 +1,5 @@
 -- The pass over the table: sizes and depth so far. Assumes nothing.
+use mathlib.Core.Bool.{Bool, true, false}
 use mathlib.Core.List.{List, []}
 use Rattle.std.specs.Prelude.{Option, None, Some}
 use mathlib.Core.Path.{◌≡◌, refl, sym, ap, ap₂, ◌∙◌}
@@ -11,7 +12,7 @@ use Rattle.ascii.proofs.Scan.{scan_to, scan_part}
 use Rattle.hosts.specs.Host.{labels}
 use Rattle.hosts.specs.code.Place.{Stands}
 use Rattle.suffix.specs.Suffix.{Rule, read_lines, read_table, matches}
-use Rattle.suffix.specs.code.Depth.{line_depth, lines_depth}
+use Rattle.suffix.specs.code.Depth.{line_depth, lines_depth, is_good}
 use Rattle.suffix.specs.code.Idle.{Passes, Shallow, ShallowBy}
 use Rattle.suffix.specs.code.Pass.{sizes_of, sized, sizes, best_of, joined, join_best, read_line, in_line, in_content}
 use Rattle.suffix.specs.declared.Sizes.{Sizes}
@@ -19,7 +20,9 @@ use Rattle.suffix.proofs.Climbs.{lines_rules, lines_more, lines_done, table_read
 use Rattle.suffix.proofs.IdleLines.{shallow_depth}
 use Rattle.suffix.proofs.Passes.{join_join, pass_fits, lines_on, next_line, Pass, pass_starts, pass_ends, pass_bad, pass_more}
 use Rattle.label_lookup.specs.code.Answer.{depths, depths_of, deepened}
+use Rattle.label_lookup.specs.code.Finds.{FindsLine}
 use Rattle.label_lookup.specs.declared.Depths.{Depths}
+use Rattle.label_lookup.proofs.FindLaws.{told_good, told_bad}
 use mir.Syntax.{w64}
 use mir.Val.{Fits}
 
@@ -108,13 +111,13 @@ pub round_starts : {host table : Bytes} {s : Sizes} {last at : ℕ} → ShallowB
 round_starts {host = host} {table = table} I e P = rw e (record { short = P.short; stands = P.stands; deeps = shallow_deeps (deeps_starts host table P.short) (I.is P) })
 
 -- one line
-pub line_wrong : (host w : Bytes) (c : ℕ) {q : Option Sizes} → q ≡ best_of (labels host) (read_line w) → q ≡ None → None ≡ deepened c (depths_of (labels host) (read_line w))
-unfolding deepened
-line_wrong host w c e f = rw (← none_best (labels host) (read_line w) (sym f ∙ e))
+pub line_wrong : (host w : Bytes) (c : ℕ) {b : Bool} → b ≡ is_good w → b ≡ false → None ≡ deepened c (depths_of (labels host) (read_line w))
+unfolding deepened depths_of
+line_wrong host w c e f = rw (told_bad w e f)
 
-pub line_found : (host w : Bytes) (c : ℕ) {q : Option Sizes} {s : Sizes} {d : ℕ} → q ≡ best_of (labels host) (read_line w) → q ≡ Some s → d ≡ max c (line_depth (labels host) (read_line w))
+pub line_found : (host w : Bytes) (c : ℕ) {b : Bool} {s : Sizes} {d : ℕ} → b ≡ is_good w → b ≡ true → FindsLine host w s → d ≡ max c (line_depth (labels host) (read_line w))
     → Some (depths s d) ≡ deepened c (depths_of (labels host) (read_line w))
-line_found host w c {s = s} {d = d} t f g = go (read_line w) (sym f ∙ t) g
+line_found host w c {s = s} {d = d} e f F g = go (read_line w) (F.is (told_good w e f)) g
   where
     go : (o : Option (List Rule)) → Some s ≡ best_of (labels host) o → d ≡ max c (line_depth (labels host) o) → Some (depths s d) ≡ deepened c (depths_of (labels host) o)
     go None t g = unfold best_of in (let z : ◌≡◌ {A = ℕ} 0 1 = cc in absurd (omega arith))

@@ -60,16 +60,6 @@ good_both ks ls g = go (read_lines ks) (read_lines ls) (ap is_none (sym (read_bo
 
 -- ---- one line after another
 
--- what is read of the line at a place
-module _ (table : Bytes) (at : ℕ) {to : ℕ} (g : to ≡ at + length (take_while in_content (drop at table))) where
-  pub part_good : Good (take_while in_content (drop at table)) → Good (take (to - at) (drop at table))
-  part_good G = rw (scan_part in_content table at to g) G
-
-  pub part_deeper : (ls : List Bytes) {q : Bool} → q ≡ deeper_in ls (read_line (take (to - at) (drop at table))) → q ≡ deeper_in ls (read_line (take_while in_content (drop at table)))
-  part_deeper ls e = e ∙ rw (scan_part in_content table at to g)
-
-pub ruleset line_laws = (part_end, part_good, part_deeper, rules)
-
 pub seeks_lends : {label table : Bytes} {n from : ℕ} → Seeks label table n from → Passes label table (n - 1) 0 from
 seeks_lends {label} {n = n} S = record {
   stands = stands_whole label (suc (n - 1)) (omega (arith, S.labels_are));
@@ -95,14 +85,18 @@ module _ {label table : Bytes} {n from at : ℕ} (R : Seeking label table n from
       let a = any_depth n (labels label) rules R.lent.some (omega (arith, R.lent.labels_are)) in
       omega (arith, leb-false n (deepest (labels label) rules) (sym a ∙ ap (λ (ls : List Bytes). any (goes_deeper ls) rules) z ∙ e))
 
-  pub seeking_good : at < length table → Good (take_while in_content (drop at table))
-  seeking_good l =
+  line_good : at < length table → Good (take_while in_content (drop at table))
+  line_good l =
       let P = R.sought.passed in
       let k = at + length (take_while in_line (drop at table)) in
       let a = (good_both P.lines (lines_from table at) (ap (λ (ls : List Bytes). is_none (read_lines ls)) (sym P.are) ∙ R.lent.good)).1 in
       let c : lines_from table at ≡ (take_while in_line (drop at table) ∷ []) ++ lines_from table (k + 1) = lines_in table at (omega arith) ∙ lines_cut table at k refl in
       let b = (good_both (take_while in_line (drop at table) ∷ []) (lines_from table (k + 1)) (ap (λ (ls : List Bytes). is_none (read_lines ls)) (sym c) ∙ a)).0 in
       record { is = ap is_none (sym (read_one (take_while in_line (drop at table)) ∙ ap read_line (content_is (drop at table)))) ∙ b }
+
+  -- what is read of the line at the place
+  pub seeking_good : {to : ℕ} → to ≡ at + length (take_while in_content (drop at table)) → at < length table → Good (take (to - at) (drop at table))
+  seeking_good {to} g l = rw (scan_part in_content table at to g) (line_good l)
 
   module _ {k : ℕ} (i : k ≡ at + length (take_while in_line (drop at table))) (l : at < length table) where
     pub seeking_fits : Fits w64 (k + 1)
@@ -115,20 +109,21 @@ module _ {label table : Bytes} {n from at : ℕ} (R : Seeking label table n from
         record { stands = P.stands; inside = omega (arith, a); short = P.short }
 
     module _ {m next : ℕ} (I : ShallowBy label table m (n - 1) 0 (k + 1) next) where
-      pub seeking_more : {b : Bool} → b ≡ deeper_in (labels label) (read_line (take_while in_content (drop at table))) → b ≡ false → Seeking label table n from next
-      seeking_more e f =
-          let d = shallow_line (read_line (take_while in_content (drop at table))) (sym e ∙ f) in
+      pub seeking_more : {b : Bool} {to : ℕ} → to ≡ at + length (take_while in_content (drop at table)) → b ≡ deeper_in (labels label) (read_line (take (to - at) (drop at table))) → b ≡ false
+          → Seeking label table n from next
+      seeking_more {to = to} g e f =
+          let d = shallow_line (read_line (take_while in_content (drop at table))) (rw (← scan_part in_content table at to g) (sym e ∙ f)) in
           let J = I.is seeking_lends in
           record {
             lent = R.lent;
             sought = record {
               onward = omega (arith, R.sought.onward, i, I.onward);
               inside = J.inside;
-              passed = passed_on R.sought.passed (passed_on (passed_line label table (n - 1) at k (omega arith) i (seeking_good l) d) J.passed);
+              passed = passed_on R.sought.passed (passed_on (passed_line label table (n - 1) at k (omega arith) i (line_good l) d) J.passed);
             };
           }
 
-pub ruleset seek_laws = (seeks_lends, seeking_starts, seeking_good, seeking_fits, seeking_lends, seeking_more, rules)
+pub ruleset seek_laws = (part_end, seeks_lends, seeking_starts, seeking_good, seeking_fits, seeking_lends, seeking_more, rules)
 
 -- ---- the span
 

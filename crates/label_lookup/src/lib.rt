@@ -8,7 +8,7 @@ ghost use Rattle.ascii.specs.Ascii.{last_of, text};
 ghost use Rattle.hosts.specs.Host.{labels, is_host};
 ghost use Rattle.hosts.specs.code.Place.{Stands};
 ghost use Rattle.suffix.specs.Suffix.{normal, read_table, private_label, or_empty};
-ghost use Rattle.suffix.specs.code.Pass.{best_of, read_line, LabelAt};
+ghost use Rattle.suffix.specs.code.Pass.{read_line, LabelAt};
 ghost use Rattle.suffix.specs.code.Deeper.{goes_deeper, deeper_in};
 ghost use Rattle.suffix.specs.code.Depth.{line_depth, Good, is_good, Past};
 ghost use Rattle.suffix.specs.code.Idle.{Passes};
@@ -16,6 +16,7 @@ ghost use Rattle.label_lookup.specs.code.Answer.{depths_of, deepened, LookupIs};
 ghost use Rattle.label_lookup.specs.code.Finds.{FindsHost, FindsRule, FindsLine};
 ghost use Rattle.label_lookup.specs.code.Span.{OwnerIs};
 
+use ascii::Span;
 use ascii::classes::Classes;
 use suffix::skips::Kinds;
 use suffix::{Form, Sizes};
@@ -28,7 +29,8 @@ pub struct Depths {
 }
 
 // What one pass tells of a host: where its private label begins, its end where there is none, what the table finds for the host, and
-// whether a rule goes deeper than that label.
+// whether a rule goes deeper than that label. The start is no Option, here and below: the label is the host from there on, and an
+// empty one is what the interface of C answers for none.
 #[derive(Clone, Copy)]
 pub struct Lookup {
     pub start: usize,
@@ -41,8 +43,7 @@ pub struct Lookup {
 #[derive(Clone, Copy)]
 pub struct Deeper {
     pub sizes: Sizes,
-    pub from: usize,
-    pub to: usize,
+    pub span: Span,
 }
 
 // Where the private label of a host begins, its end where there is none, and what is held of the rules that go deeper, where some do.
@@ -50,6 +51,13 @@ pub struct Deeper {
 pub struct Owner {
     pub start: usize,
     pub deeper: Option<Deeper>,
+}
+
+// What is read of a line that makes no table bad.
+#[derive(Clone, Copy)]
+struct Line<'a> {
+    bytes: &'a [u8],
+    ghost good: { Good bytes.now },
 }
 
 // `*.` and v is a rule: v is a host, and both have at most 253 bytes. The classes are lent, here and below.
@@ -131,16 +139,6 @@ pub fn form_sizes(host: &[u8], w: &[u8]) -> Sizes
     }
 }
 
-// The same of any line; none of one that makes the table bad.
-fn line_sizes(classes: &Classes, host: &[u8], w: &[u8]) -> Option<Sizes>
-    ensures { result ≡ best_of (labels host.now) (read_line w.now) }
-{
-    if is_good(classes, w) {
-        return Some(form_sizes(host, w));
-    }
-    None
-}
-
 // The rule or exception whose name is the host w goes deeper than the label.
 fn name_deeper(label: &[u8], w: &[u8]) -> bool
     requires { is_host w.now ≡ true }
@@ -152,11 +150,11 @@ fn name_deeper(label: &[u8], w: &[u8]) -> bool
     false
 }
 
-// What is read of a good line has a rule that goes deeper than the label.
-fn form_deeper(label: &[u8], w: &[u8]) -> bool
-    requires { Good w.now }
-    ensures { result ≡ deeper_in (labels label.now) (read_line w.now) }
+// What is read of a line has a rule that goes deeper than the label.
+fn form_deeper(label: &[u8], line: &Line) -> bool
+    ensures { result ≡ deeper_in (labels label.now) (read_line line.now.bytes.now) }
 {
+    let w = line.bytes;
     match suffix::form_of(w) {
         Form::Nothing => false,
         Form::Star => false,
@@ -167,14 +165,13 @@ fn form_deeper(label: &[u8], w: &[u8]) -> bool
 }
 
 // How many of the host's last labels it goes deeper than, or the depth that is known already.
-fn form_climb(host: &[u8], depth: usize, w: &[u8]) -> usize
-    requires { Good w.now }
-    ensures { result ≡ max depth (line_depth (labels host.now) (read_line w.now)) }
+fn form_climb(host: &[u8], depth: usize, line: &Line) -> usize
+    ensures { result ≡ max depth (line_depth (labels host.now) (read_line line.now.bytes.now)) }
 {
     let n = hosts::label_count(host);
     for k in depth..n {
         let at = hosts::last_labels(host, k + 1);
-        if !form_deeper(&host[at..], w) {
+        if !form_deeper(&host[at..], line) {
             return k;
         }
     }
@@ -182,17 +179,17 @@ fn form_climb(host: &[u8], depth: usize, w: &[u8]) -> usize
 }
 
 // The same; tail has one label more than the depth before it. Most lines do not go deeper than these, and none is climbed twice.
-fn form_depth(host: &[u8], tail: &[u8], depth: usize, w: &[u8]) -> usize
-    requires { Good w.now × Past host.now tail.now depth }
-    ensures { result ≡ max depth (line_depth (labels host.now) (read_line w.now)) }
+fn form_depth(host: &[u8], tail: &[u8], depth: usize, line: &Line) -> usize
+    requires { Past host.now tail.now depth }
+    ensures { result ≡ max depth (line_depth (labels host.now) (read_line line.now.bytes.now)) }
 {
-    if form_deeper(tail, w) {
-        return form_climb(host, depth, w);
+    if form_deeper(tail, line) {
+        return form_climb(host, depth, line);
     }
     depth
 }
 
-// What one line finds, with the depth before it, whose labels and one more begin at start.
+// What any line finds, with the depth before it, whose labels and one more begin at start; none for one that makes the table bad.
 fn line_finds(
     classes: &Classes,
     host: &[u8],
@@ -203,9 +200,13 @@ fn line_finds(
     requires { Stands (last_of (suc depth) (labels host.now)) host.now start }
     ensures { result ≡ deepened depth (depths_of (labels host.now) (read_line w.now)) }
 {
-    let sizes = line_sizes(classes, host, w)?;
-    let depth = form_depth(host, &host[start..], depth, w);
-    Some(Depths { sizes, depth })
+    if is_good(classes, w) {
+        let line = Line { bytes: w };
+        let sizes = form_sizes(host, w);
+        let depth = form_depth(host, &host[start..], depth, &line);
+        return Some(Depths { sizes, depth });
+    }
+    None
 }
 
 // Where the labels begin that are one more than the depth; the host's start where it has no more.
@@ -229,8 +230,9 @@ fn deeper_tail(host: &[u8], depth: usize, start: usize, d: usize) -> usize
     start
 }
 
-// The lines of the table, but for those that find nothing; the host's last label begins at last. A loop, since each turn begins
-// where the pass over such lines stopped.
+// The lines of the table, but for those that find nothing; the host's last label begins at last. A loop, since each turn begins where
+// the pass over such lines stopped. The depth, the place where its labels begin and the sizes change together in this loop alone, each by
+// a function of its own, so that a struct of them would be no plainer.
 fn deep_lines(classes: &Classes, kinds: &Kinds, last: usize, table: &[u8]) -> Option<Depths>
     requires { Passes kinds.now.host.now table.now 0 last 0 }
     ensures { result ≡ depths_of (labels kinds.now.host.now) (read_table table.now) }
@@ -307,8 +309,7 @@ pub fn find_owner(host: &[u8], table: &[u8]) -> Option<Owner>
         let span = spans::find_span(&host[start..], table);
         let deeper = Deeper {
             sizes: found.sizes,
-            from: span.from,
-            to: span.to,
+            span,
         };
         return Some(Owner {
             start,

@@ -1,35 +1,32 @@
 // Bodies on both sides of each bound of document 01, "The list": what is refused, or the first two selected entries, decoded.
 #![tactic(auto)]
 
+use json_text::Decoded;
 use std::io;
 use trusted_list::Version;
 
-fn write(rt: &impl Print, s: &[u8]) -> io::Result<()> {
-    rt.write_all(s)
-}
-
-// The first n bytes; more than 512 are not held.
-fn write_held(rt: &impl Print, bytes: &[u8; 512], n: usize) -> io::Result<()> {
-    if 512 < n {
-        return write(rt, b" long");
-    }
-    write(rt, b" ")?;
-    write(rt, ascii::prefix(bytes, n))
+// What is held of an entry; more than 512 bytes are not.
+fn write_held(rt: &impl Print, decoded: &Decoded) -> io::Result<()> {
+    let Some(bytes) = decoded.held() else {
+        return rt.write_all(b" long");
+    };
+    rt.write_all(b" ")?;
+    rt.write_all(bytes)
 }
 
 // The entry at a place; returns the place of the next one.
 fn write_entry(rt: &impl Print, body: &[u8], at: usize) -> io::Result<Option<usize>> {
-    let mut bytes = [0u8; 512];
-    let Some((n, j)) = json_text::decoding::decode_string(&mut bytes, body, at) else {
+    let mut decoded = Decoded::new();
+    let Some(j) = decoded.decode_string(body, at) else {
         return Ok(None);
     };
-    write_held(rt, &bytes, n)?;
+    write_held(rt, &decoded)?;
     Ok(trusted_list::next_entry(body, j))
 }
 
 fn write_entries(rt: &impl Print, body: &[u8], ids: usize) -> io::Result<()> {
     let Some(a) = trusted_list::first_entry(body, ids) else {
-        return write(rt, b" no entry");
+        return rt.write_all(b" no entry");
     };
     let Some(b) = write_entry(rt, body, a)? else {
         return Ok(());
@@ -37,23 +34,23 @@ fn write_entries(rt: &impl Print, body: &[u8], ids: usize) -> io::Result<()> {
     let Some(_) = write_entry(rt, body, b)? else {
         return Ok(());
     };
-    write(rt, b" ..")
+    rt.write_all(b" ..")
 }
 
 // For version 1.0.
 fn show(rt: &impl Print, label: &[u8], body: &[u8]) -> io::Result<()> {
-    write(rt, label)?;
-    write(rt, b":")?;
+    rt.write_all(label)?;
+    rt.write_all(b":")?;
     match trusted_list::select(body, Version { major: 1, minor: 0 }) {
         Err(x) => {
-            write(rt, b" refused ")?;
+            rt.write_all(b" refused ")?;
             rt.print(u16::from(x))?;
         }
         Ok(ids) => {
             write_entries(rt, body, ids)?;
         }
     }
-    write(rt, b"\n")
+    rt.write_all(b"\n")
 }
 
 fn shapes(rt: &impl Print) -> io::Result<()> {

@@ -5,15 +5,6 @@
 use fetch_record::FetchRecord;
 use std::io;
 
-// Two Locations: the first 12 bytes and the last 13 of 25.
-fn text() -> [u8; 25] {
-    *b"https://a.b/https://c.d?e"
-}
-
-fn write(rt: &impl Print, s: &[u8]) -> io::Result<()> {
-    rt.write_all(s)
-}
-
 // The label and the part between brackets.
 fn show<'a>(
     rt: &impl Print,
@@ -23,11 +14,11 @@ fn show<'a>(
     items: &[u8],
     text: &'a [u8],
 ) -> io::Result<()> {
-    write(rt, label)?;
-    write(rt, b": [")?;
+    rt.write_all(label)?;
+    rt.write_all(b": [")?;
     let record = FetchRecord { items, text };
-    write(rt, decision::fetch_location(caller, appid, record))?;
-    write(rt, b"]\n")
+    rt.write_all(decision::fetch_location(caller, appid, record))?;
+    rt.write_all(b"]\n")
 }
 
 // The decision is fetch.
@@ -147,8 +138,9 @@ fn settled(rt: &impl Print, text: &[u8]) -> io::Result<()> {
 }
 
 fn main(rt: HostRuntime) -> io::Result<()> {
-    let t = text();
-    fetches(&rt, &t)?;
-    records(&rt, &t)?;
-    settled(&rt, &t)
+    // two Locations: the first 12 bytes and the last 13 of 25
+    let t = b"https://a.b/https://c.d?e";
+    fetches(&rt, t)?;
+    records(&rt, t)?;
+    settled(&rt, t)
 }

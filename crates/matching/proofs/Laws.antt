@@ -2,12 +2,12 @@
 use borrow.Author.Rules.{rules}
 use Rattle.origin.proofs.Readings.{found_low, found_high, found_inside}
 use Rattle.matching.proofs.Compared.{hosts_compared, ports_equal, ports_differ, host_no_caller, match_native, host_no_other, host_both, match_no_other, match_both}
-use Rattle.matching.proofs.UnlikeSteps.{stop_colon, stop_slash, end_past, end_at, apart_first, apart_second, walk_starts, walk_over, walk_x, walk_y, walk_stop, walk_other, walk_more, match_unlike}
+use Rattle.matching.proofs.UnlikeSteps.{stop_colon, stop_slash, end_past, end_at, apart_first, apart_second, match_unlike}
 
 -- where the parts of an identifier stand
 pub ruleset laws = (found_low, found_high, found_inside, rules)
 
-pub ruleset unlike_laws = (stop_colon, stop_slash, end_past, end_at, apart_first, apart_second, walk_starts, walk_over, walk_x, walk_y, walk_stop, walk_other, walk_more, rules)
+pub ruleset unlike_laws = (stop_colon, stop_slash, end_past, end_at, apart_first, apart_second, rules)
 
 -- two hosts, two origins, and when they match
 pub ruleset match_laws = (

@@ -1,19 +1,23 @@
 -- A quick test that two identifiers do not match.
 use Rattle.std.specs.Prelude.{if◌then◌else◌, Option, None, Some}
+use Rattle.std.specs.List.{AllWithin, HoldsAt, zip}
+use Rattle.std.specs.Option.{MatchOption, unwrap_or}
+use Rattle.std.proofs.lemmas.Iterator.{index_from_first}
 use mathlib.Core.Path.{◌≡◌, refl, sym, ap, ◌∙◌}
 use mathlib.Core.Bool.{Bool, true, false, ◌&&◌, ◌||◌, not, and-eq-true_iff}
-use mathlib.Core.List.{[], ◌∷◌}
-use Prim.Native.Nat.{ℕ, ◌+◌, ◌≤◌, ◌<◌, min, max}
+use mathlib.Core.List.{List, [], ◌∷◌}
+use Prim.Native.Nat.{ℕ, ◌+◌, ◌-◌, ◌≤◌, ◌<◌, min}
 use native.Mathlib.Numerals.{add-one}
 use native.Mathlib.Omega.{arith}
-use lib.ListN.{length, get_or, drop, drop_of_length-le}
+use lib.ListN.{length, get_or, take, drop, drop_of_length-le}
 use lib.Seq.{drop-cons}
-use lib.Dec.{eqb, leb}
-use borrow.Author.Tests.{eq-eqb, ne_eqb, eqb-true, leb-true, leb-false}
+use lib.Dec.{eqb}
+use borrow.Author.Tests.{eq-eqb, ne_eqb, eqb-true}
 use Rattle.ascii.specs.Ascii.{Bytes, ◌>>=◌, is_empty, take_while, drop_while, is_digit, is_upper, is_letter, lower_byte, lower, same, same_no_case, begins_with, text}
 use Rattle.ascii.proofs.Compare.{same_eq}
 use Rattle.ascii.proofs.OptionLaws.{Holds, holds}
 use Rattle.hosts.specs.Host.{is_host, is_label_byte}
+use Rattle.hosts.proofs.Places.{rest_whole}
 use Rattle.origin.specs.Origin.{Authority, begins_https, is_port, read_port, is_host_byte, read_host, read_https, web_origin}
 use Rattle.matching.specs.Matching.{same_origin, facet_matches}
 use Rattle.matching.specs.code.Unlike.{is_stop, may_end, apart, unlike}
@@ -47,55 +51,58 @@ module _ (x y : Bytes) {p : Bool} where
   unfolding apart
   apart_second e h f = rw (f, sym e ∙ h)
 
--- ---- the loop
+-- ---- the bytes that are alike
 
--- from i on it is decided
-pub record Walks (x y : Bytes) (i : ℕ) : Type 0 where
-  pub most : i ≤ max (min (length x) (length y)) 8
-  pub is : unlike (drop i x) (drop i y) ≡ unlike (drop 8 x) (drop 8 y)
+-- the bytes of two texts are alike, and end no host
+unfoldable pub alike : ℕ × ℕ → Bool
+alike p = not (is_stop p.0) && eqb (lower_byte p.0) (lower_byte p.1)
 
-pub walk_starts : (x y : Bytes) → Walks x y 8
-walk_starts x y = record { most = omega arith; is = refl }
+before : List (ℕ × ℕ) → ℕ
+before [] = 0
+before (p ∷ ps) = if alike p then before ps + 1 else 0
 
-module _ {x y : Bytes} {i : ℕ} (W : Walks x y i) where
-  done : {r : Bool} → unlike (drop i x) (drop i y) ≡ apart (drop i x) (drop i y) → r ≡ apart (drop i x) (drop i y) → r ≡ unlike (drop 8 x) (drop 8 y)
-  done f e = e ∙ sym f ∙ W.is
+before_hit : (p : ℕ × ℕ) (ps : List (ℕ × ℕ)) → alike p ≡ false → before (p ∷ ps) ≡ 0
+unfolding before
+before_hit p ps e = rw e
 
-  -- one of them ends
-  pub walk_over : {m n : ℕ} {r : Bool} → m ≤ i → n ≡ min (length x) (length y) → m ≡ max n 8 → r ≡ apart (drop m x) (drop m y) → r ≡ unlike (drop 8 x) (drop 8 y)
-  walk_over {m = m} h k l e = let z : m ≡ i = omega (arith, W.most) in done (go (leb (length x) i) refl (leb (length y) i) refl) (rw z at e)
-    where
-      go : (u : Bool) → leb (length x) i ≡ u → (v : Bool) → leb (length y) i ≡ v → unlike (drop i x) (drop i y) ≡ apart (drop i x) (drop i y)
-      go true a v b = unfold unlike in rw (drop_of_length-le x (leb-true (length x) i a))
-      go false a true b = unfold unlike in rw (drop_of_length-le y (leb-true (length y) i b), drop-cons x i 0 (leb-false (length x) i a))
-      go false a false b = absurd (omega (arith, leb-false (length x) i a, leb-false (length y) i b))
+before_miss : (p : ℕ × ℕ) (ps : List (ℕ × ℕ)) → alike p ≡ true → before (p ∷ ps) ≡ before ps + 1
+unfolding before
+before_miss p ps e = rw e
 
-  module _ {m n : ℕ} (h : i < m) (k : n ≡ min (length x) (length y)) (l : m ≡ max n 8) (b : 8 ≤ i) where
-    pub walk_x : i < length x
-    walk_x = omega arith
+unlike_at : (x y : Bytes) → unlike x y ≡ apart (drop (before (zip x y)) x) (drop (before (zip x y)) y)
+unfolding unlike before alike
+unlike_at [] y = refl
+unlike_at (b ∷ x) [] = refl
+unlike_at (b ∷ x) (c ∷ y) = go (not (is_stop b) && eqb (lower_byte b) (lower_byte c)) (unlike_at x y)
+  where
+    go : (u : Bool) → unlike x y ≡ apart (drop (before (zip x y)) x) (drop (before (zip x y)) y)
+        → (if u then unlike x y else apart (b ∷ x) (c ∷ y)) ≡ apart (drop (if u then before (zip x y) + 1 else 0) (b ∷ x)) (drop (if u then before (zip x y) + 1 else 0) (c ∷ y))
+    go true ih = rw add-one ih
+    go false ih = refl
 
-    pub walk_y : i < length y
-    walk_y = omega arith
+length_zip : (x y : Bytes) → length (zip x y) ≡ min (length x) (length y)
+length_zip [] y = omega arith
+length_zip (b ∷ x) [] = omega arith
+length_zip (b ∷ x) (c ∷ y) = omega (arith, length_zip x y)
 
-    module _ {p : Bool} (e : p ≡ is_stop (get_or x i 0)) where
-      pub walk_stop : {r : Bool} → p ≡ true → r ≡ apart (drop i x) (drop i y) → r ≡ unlike (drop 8 x) (drop 8 y)
-      walk_stop f g = done (go (sym e ∙ f)) g
-        where
-          go : is_stop (get_or x i 0) ≡ true → unlike (drop i x) (drop i y) ≡ apart (drop i x) (drop i y)
-          go u = unfold unlike in rw (drop-cons x i 0 walk_x, drop-cons y i 0 walk_y, u)
+-- r is the place of the first two bytes that are not
+abbrev pub First : List (ℕ × ℕ) → Option ℕ → Type 0
+First ps r =
+    MatchOption r (AllWithin (λ p. alike p ≡ true) ps 0 (length ps))
+    (λ i. (i < length ps) × HoldsAt (λ p. alike p ≡ false) ps i × AllWithin (λ p. alike p ≡ true) ps 0 i)
 
-      module _ (f : p ≡ false) {q : Bool} (a : q ≡ eqb (lower_byte (get_or x i 0)) (lower_byte (get_or y i 0))) where
-        pub walk_other : {r : Bool} → q ≡ false → r ≡ apart (drop i x) (drop i y) → r ≡ unlike (drop 8 x) (drop 8 y)
-        walk_other b g = done (go (sym e ∙ f) (sym a ∙ b)) g
-          where
-            go : is_stop (get_or x i 0) ≡ false → eqb (lower_byte (get_or x i 0)) (lower_byte (get_or y i 0)) ≡ false → unlike (drop i x) (drop i y) ≡ apart (drop i x) (drop i y)
-            go u v = unfold unlike in rw (drop-cons x i 0 walk_x, drop-cons y i 0 walk_y, u, v)
+first_is : (ps : List (ℕ × ℕ)) (r : Option ℕ) → First ps r → before ps ≡ unwrap_or r (length ps)
+unfolding before
+first_is = index_from_first before (λ p. alike p ≡ false) (λ p. alike p ≡ true) refl before_hit before_miss
 
-        pub walk_more : q ≡ true → Walks x y (i + 1)
-        walk_more b = record { most = omega arith; is = sym (go (sym e ∙ f) (sym a ∙ b)) ∙ W.is }
-          where
-            go : is_stop (get_or x i 0) ≡ false → eqb (lower_byte (get_or x i 0)) (lower_byte (get_or y i 0)) ≡ true → unlike (drop i x) (drop i y) ≡ unlike (drop (i + 1) x) (drop (i + 1) y)
-            go u v = unfold unlike in rw (add-one i, drop-cons x i 0 walk_x, drop-cons y i 0 walk_y, u, v)
+module _ (x y p q : Bytes) (e : p ≡ take (length x - 8) (drop 8 x)) (f : q ≡ take (length y - 8) (drop 8 y)) where
+  pub unlike_found : (r : Option ℕ) {end n : ℕ} {b : Bool} → end ≡ min (length p) (length q) → First (zip p q) r → n ≡ unwrap_or r end → b ≡ apart (drop n p) (drop n q)
+      → b ≡ unlike (drop 8 x) (drop 8 y)
+  unlike_found r {n = n} k F h g =
+      let m : n ≡ before (zip p q) = rw (h, k, ← length_zip p q) (sym (first_is (zip p q) r F)) in
+      let u : p ≡ drop 8 x = e ∙ rest_whole x 8 in
+      let v : q ≡ drop 8 y = f ∙ rest_whole y 8 in
+      rw (← u, ← v) (g ∙ rw m (sym (unlike_at p q)))
 
 -- ---- what it tells
 

@@ -76,16 +76,14 @@ fn are_apart(x: &[u8], y: &[u8], at: usize) -> bool
 fn are_unlike(x: &[u8], y: &[u8]) -> bool
     ensures { result ≡ unlike (drop 8 x.now) (drop 8 y.now) }
 {
-    let end = x.len().min(y.len()).max(8);
-    for i in 8..end {
-        if is_stop(x[i]) {
-            return are_apart(x, y, i);
-        }
-        if !ascii::alike(x[i], y[i]) {
-            return are_apart(x, y, i);
-        }
-    }
-    are_apart(x, y, end)
+    let p = ascii::part(x, 8, x.len());
+    let q = ascii::part(y, 8, y.len());
+    let end = p.len().min(q.len());
+    let at = p
+        .iter()
+        .zip(q)
+        .position(|(b, c)| is_stop(*b) || !ascii::alike(*b, *c));
+    are_apart(p, q, at.unwrap_or(end))
 }
 
 // A native caller equals the entry in bytes, a web caller by host and port.

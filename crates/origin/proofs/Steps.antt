@@ -143,8 +143,8 @@ tail_is [] n e = absurd (n refl)
 tail_is (b ∷ t) n e = rw e
 
 module _ (t : Bytes) {a : Bool} (n : length t ≡ 0 → ⊥) (e : a ≡ begins_tail t) where
-  pub tail_begun : {i : ℕ} → a ≡ true → i ≡ length (take_while is_tail_byte t) → eqb i (length t) ≡ is_tail t
-  tail_begun h f = rw (f, while_whole is_tail_byte t, tail_is t n e, h)
+  pub tail_begun : {i : ℕ} → a ≡ true → i ≡ 0 + length (take_while is_tail_byte t) → eqb i (length t) ≡ is_tail t
+  tail_begun h f = rw (f, while_from is_tail_byte t 0 (omega arith), tail_is t n e, h)
 
   pub tail_other : a ≡ false → false ≡ is_tail t
   tail_other h = rw (tail_is t n e, h)

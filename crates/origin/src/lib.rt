@@ -1,8 +1,7 @@
 // Identifiers: web origins, native identities, facets, HTTPS URLs.
 #![tactic(auto)]
 
-ghost use Rattle.std.specs.Prelude.{◌≡◌, ◌+◌, ◌≤◌, length, drop, Some};
-ghost use Rattle.ascii.specs.Ascii.{is_digit, take_while};
+ghost use Rattle.std.specs.Prelude.{◌≡◌, ◌≤◌, length, drop, Some};
 ghost use Rattle.origin.specs.Origin.{begins_https, begins_native, is_host_byte, read_port, read_host, read_https, web_origin, is_key_hash_byte, is_android, is_ios, is_native, is_facet, is_tail_byte, is_tail, https_url};
 ghost use Rattle.origin.specs.code.Parts.{part, is_end, begins_tail, port_of, without_port, HostEnd, Reads};
 
@@ -41,20 +40,6 @@ fn is_host_byte(classes: &Classes, b: u8) -> bool
     classes.class_of(b) < 4
 }
 
-// The place behind the letters, digits, hyphens and dots at a place.
-fn host_stop(classes: &Classes, s: &[u8], from: usize) -> usize
-    ensures { result ≡ from + length (take_while is_host_byte (drop from s.now)) }
-{
-    ascii::run_end(s, from, |b| is_host_byte(classes, b))
-}
-
-// The place behind the digits at a place.
-fn digits_stop(s: &[u8], from: usize) -> usize
-    ensures { result ≡ from + length (take_while is_digit (drop from s.now)) }
-{
-    ascii::run_end(s, from, ascii::is_digit)
-}
-
 // 1 to 65535 without leading zero.
 fn port_number(p: &[u8]) -> Option<u16>
     ensures { result ≡ port_of p.now }
@@ -77,7 +62,7 @@ fn read_port(s: &[u8], end: usize) -> Option<Parts>
         return no_port(s, end);
     }
     let from = end + 1;
-    let tail = digits_stop(s, from);
+    let tail = ascii::run_end(s, from, ascii::is_digit);
     let port = port_number(&s[from..tail])?;
     Some(Parts { end, port, tail })
 }
@@ -99,7 +84,7 @@ fn read_host(s: &[u8]) -> Option<Parts>
     ensures { Reads s.now (read_host (drop 8 s.now)) result }
 {
     let classes = Classes::new();
-    let end = host_stop(&classes, s, 8);
+    let end = ascii::run_end(s, 8, |b| is_host_byte(&classes, b));
     if hosts::is_host(&s[8..end]) {
         read_port(s, end)
     } else {
@@ -145,13 +130,6 @@ fn is_tail_byte(b: u8) -> bool
     b != b'#'
 }
 
-// The place behind the bytes of a tail.
-fn tail_stop(t: &[u8]) -> usize
-    ensures { result ≡ length (take_while is_tail_byte t.now) }
-{
-    ascii::run_end(t, 0, is_tail_byte)
-}
-
 // The tail begins with `/` or `?`.
 fn begins_tail(t: &[u8]) -> bool
     ensures { result ≡ begins_tail t.now }
@@ -170,7 +148,7 @@ fn is_tail(t: &[u8]) -> bool
         return true;
     }
     if begins_tail(t) {
-        tail_stop(t) == t.len()
+        ascii::run_end(t, 0, is_tail_byte) == t.len()
     } else {
         false
     }
@@ -202,13 +180,6 @@ fn is_key_hash_byte(classes: &Classes, b: u8) -> bool
     b == b'/'
 }
 
-// The place behind the bytes of a key hash at a place.
-fn key_hash_stop(classes: &Classes, s: &[u8], from: usize) -> usize
-    ensures { result ≡ from + length (take_while is_key_hash_byte (drop from s.now)) }
-{
-    ascii::run_end(s, from, |b| is_key_hash_byte(classes, b))
-}
-
 // Exactly 27 characters behind the prefix of 21: 48 bytes.
 pub fn is_android(s: &[u8]) -> bool
     ensures { result ≡ is_android s.now }
@@ -218,7 +189,7 @@ pub fn is_android(s: &[u8]) -> bool
     }
     if ascii::begins_with(s, b"android:apk-key-hash:") {
         let classes = Classes::new();
-        key_hash_stop(&classes, s, 21) == s.len()
+        ascii::run_end(s, 21, |b| is_key_hash_byte(&classes, b)) == s.len()
     } else {
         false
     }
@@ -236,7 +207,7 @@ pub fn is_ios(s: &[u8]) -> bool
     }
     if ascii::begins_with(s, b"ios:bundle-id:") {
         let classes = Classes::new();
-        host_stop(&classes, s, 14) == s.len()
+        ascii::run_end(s, 14, |b| is_host_byte(&classes, b)) == s.len()
     } else {
         false
     }

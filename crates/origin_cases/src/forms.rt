@@ -1,26 +1,14 @@
 // Normal forms, and which caller matches what.
 use std::io;
 
-fn put(rt: &impl Print, text: &[u8]) -> io::Result<()> {
-    rt.write_all(text)
-}
-
-// The first n bytes of s.
-fn put_first(rt: &impl Print, s: &[u8], n: usize) -> io::Result<()> {
-    if n <= s.len() {
-        put(rt, &s[0..n])?;
-    }
-    Ok(())
-}
-
 // A text and its normal form.
 fn form(rt: &impl Print, s: &[u8]) -> io::Result<()> {
     let mut out = [0u8; 64];
-    put(rt, s)?;
-    put(rt, b" = ")?;
+    rt.write_all(s)?;
+    rt.write_all(b" = ")?;
     let n = normal_forms::write_normal(s, &mut out, 0);
-    put_first(rt, &out, n)?;
-    put(rt, b"\n")
+    rt.write_all(ascii::prefix(&out, n))?;
+    rt.write_all(b"\n")
 }
 
 pub fn normal_forms(rt: &impl Print) -> io::Result<()> {
@@ -37,9 +25,9 @@ pub fn normal_forms(rt: &impl Print) -> io::Result<()> {
 
 // Eleven bytes at a place of twelve: the twelve afterwards, and the place behind.
 fn room(rt: &impl Print, at: usize) -> io::Result<()> {
-    let mut out = [46u8; 12];
+    let mut out = [b'.'; 12];
     let n = normal_forms::write_normal(b"https://A.B/", &mut out, at);
-    put(rt, &out)?;
+    rt.write_all(&out)?;
     println!(rt; " {n}")
 }
 
@@ -52,14 +40,14 @@ pub fn rooms(rt: &impl Print) -> io::Result<()> {
 
 fn says(rt: &impl Print, yes: bool, a: &[u8], b: &[u8]) -> io::Result<()> {
     if yes {
-        put(rt, b"yes ")?;
+        rt.write_all(b"yes ")?;
     } else {
-        put(rt, b"no ")?;
+        rt.write_all(b"no ")?;
     }
-    put(rt, a)?;
-    put(rt, b" ")?;
-    put(rt, b)?;
-    put(rt, b"\n")
+    rt.write_all(a)?;
+    rt.write_all(b" ")?;
+    rt.write_all(b)?;
+    rt.write_all(b"\n")
 }
 
 fn pair(rt: &impl Print, caller: &[u8], entry: &[u8]) -> io::Result<()> {

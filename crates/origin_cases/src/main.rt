@@ -9,12 +9,12 @@ use std::io;
 
 mod forms;
 
-fn put(rt: &impl Print, text: &[u8]) -> io::Result<()> {
-    rt.write_all(text)
-}
-
 fn mark(rt: &impl Print, yes: bool, letter: &[u8]) -> io::Result<()> {
-    if yes { put(rt, letter) } else { put(rt, b"-") }
+    if yes {
+        rt.write_all(letter)
+    } else {
+        rt.write_all(b"-")
+    }
 }
 
 fn found(rt: &impl Print, r: Option<Parts>, letter: &[u8]) -> io::Result<()> {
@@ -23,7 +23,7 @@ fn found(rt: &impl Print, r: Option<Parts>, letter: &[u8]) -> io::Result<()> {
 
 fn begins(rt: &impl Print, s: &[u8]) -> io::Result<()> {
     if origin::begins_https(s) {
-        put(rt, b"h")
+        rt.write_all(b"h")
     } else {
         mark(rt, origin::begins_native(s), b"n")
     }
@@ -36,24 +36,14 @@ fn named(rt: &impl Print, name: &[u8], s: &[u8]) -> io::Result<()> {
     mark(rt, origin::is_android(s), b"a")?;
     mark(rt, origin::is_ios(s), b"i")?;
     mark(rt, origin::is_facet(s), b"f")?;
-    put(rt, b" ")?;
-    put(rt, name)?;
-    put(rt, b"\n")
+    rt.write_all(b" ")?;
+    rt.write_all(name)?;
+    rt.write_all(b"\n")
 }
 
 // The first n bytes of s.
 fn first(rt: &impl Print, name: &[u8], s: &[u8], n: usize) -> io::Result<()> {
-    if n <= s.len() {
-        named(rt, name, &s[0..n])?;
-    }
-    Ok(())
-}
-
-// Every byte of s is the letter a.
-fn fill(s: &mut [u8]) {
-    for x in s.iter_mut() {
-        *x = 97;
-    }
+    named(rt, name, ascii::prefix(s, n))
 }
 
 // Each line of s.
@@ -65,17 +55,10 @@ fn lines(rt: &impl Print, s: &[u8]) -> io::Result<()> {
     Ok(())
 }
 
-fn first_lines(rt: &impl Print, s: &[u8], n: usize) -> io::Result<()> {
-    if n <= s.len() {
-        lines(rt, &s[0..n])?;
-    }
-    Ok(())
-}
-
 fn input(rt: &(impl Input + Print)) -> io::Result<()> {
     let mut buffer = [0u8; 4096];
     let n = read_full(&mut rt.reader(), &mut buffer)?;
-    first_lines(rt, &buffer, n)
+    lines(rt, ascii::prefix(&buffer, n))
 }
 
 fn tail_bytes(rt: &impl Print) -> io::Result<()> {
@@ -91,41 +74,37 @@ fn tail_bytes(rt: &impl Print) -> io::Result<()> {
 
 // Labels of 63, 63, 63 and the rest.
 fn long_hosts(rt: &impl Print) -> io::Result<()> {
-    let mut s = [0u8; 4096];
-    fill(&mut s);
+    let mut s = [b'a'; 4096];
     normal_forms::write_bytes(b"https://", &mut s, 0);
     first(rt, b"label of 63", &s, 71)?;
     first(rt, b"label of 64", &s, 72)?;
-    s[71] = 46;
-    s[135] = 46;
-    s[199] = 46;
+    s[71] = b'.';
+    s[135] = b'.';
+    s[199] = b'.';
     first(rt, b"host of 253", &s, 261)?;
     first(rt, b"host of 254", &s, 262)
 }
 
 fn longest_origin(rt: &impl Print) -> io::Result<()> {
-    let mut s = [0u8; 4096];
-    fill(&mut s);
+    let mut s = [b'a'; 4096];
     normal_forms::write_bytes(b"https://", &mut s, 0);
-    s[71] = 46;
-    s[135] = 46;
-    s[199] = 46;
+    s[71] = b'.';
+    s[135] = b'.';
+    s[199] = b'.';
     normal_forms::write_bytes(b":65535//", &mut s, 261);
     first(rt, b"origin of 268", &s, 268)?;
     first(rt, b"origin of 269", &s, 269)
 }
 
 fn long_bundles(rt: &impl Print) -> io::Result<()> {
-    let mut s = [0u8; 4096];
-    fill(&mut s);
+    let mut s = [b'a'; 4096];
     normal_forms::write_bytes(b"ios:bundle-id:", &mut s, 0);
     first(rt, b"bundle name of 255", &s, 269)?;
     first(rt, b"bundle name of 256", &s, 270)
 }
 
 fn long_urls(rt: &impl Print) -> io::Result<()> {
-    let mut s = [0u8; 4096];
-    fill(&mut s);
+    let mut s = [b'a'; 4096];
     normal_forms::write_bytes(b"https://a.b/", &mut s, 0);
     first(rt, b"URL of 2048", &s, 2048)?;
     first(rt, b"URL of 2049", &s, 2049)

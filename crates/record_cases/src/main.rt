@@ -4,53 +4,43 @@
 use fetch_record::FetchRecord;
 use std::io;
 
-// Two Locations: the first 12 bytes and the last 13 of 25.
-fn text() -> [u8; 25] {
-    *b"https://a.b/https://c.d?e"
-}
-
 // 9 redirects, the last one to the second Location, then an answer.
 fn nine() -> [u8; 76] {
     *b"\x01\x01\x2c\x01\x00\x00\x00\x0c\x01\x01\x2c\x01\x00\x00\x00\x0c\x01\x01\x2c\x01\x00\x00\x00\x0c\x01\x01\x2c\x01\x00\x00\x00\x0c\x01\x01\x2c\x01\x00\x00\x00\x0c\x01\x01\x2c\x01\x00\x00\x00\x0c\x01\x01\x2c\x01\x00\x00\x00\x0c\x01\x01\x2c\x01\x00\x00\x00\x0c\x01\x01\x2c\x01\x00\x0c\x00\x0d\x02\x00\xc8\x01"
 }
 
-fn write(rt: &impl Print, s: &[u8]) -> io::Result<()> {
-    rt.write_all(s)
-}
-
 // The part of the text that is to be fetched.
 fn write_target(rt: &impl Print, record: FetchRecord) -> io::Result<()> {
-    if let Some(part) = record.last_location() {
-        let text = record.text;
-        write(rt, b" ")?;
-        write(rt, &text[part.from..part.to])?;
+    if let Some(span) = record.last_location() {
+        rt.write_all(b" ")?;
+        rt.write_all(span.of(record.text))?;
     }
     Ok(())
 }
 
 fn show(rt: &impl Print, label: &[u8], items: &[u8], text: &[u8]) -> io::Result<()> {
     let record = FetchRecord { items, text };
-    write(rt, label)?;
+    rt.write_all(label)?;
     match record.fetching() {
         Err(r) => {
-            write(rt, b": refused ")?;
+            rt.write_all(b": refused ")?;
             rt.print(u16::from(r))?;
         }
         Ok(None) => {
-            write(rt, b": fetch")?;
+            rt.write_all(b": fetch")?;
             write_target(rt, record)?;
         }
         Ok(Some(a)) => {
-            write(rt, b": answer ")?;
+            rt.write_all(b": answer ")?;
             rt.print(a.status)?;
             if a.type_seen {
-                write(rt, b" right type")?;
+                rt.write_all(b" right type")?;
             } else {
-                write(rt, b" wrong type")?;
+                rt.write_all(b" wrong type")?;
             }
         }
     }
-    write(rt, b"\n")
+    rt.write_all(b"\n")
 }
 
 fn redirects(rt: &impl Print, text: &[u8]) -> io::Result<()> {
@@ -212,10 +202,11 @@ fn most(rt: &impl Print, text: &[u8]) -> io::Result<()> {
 }
 
 fn main(rt: HostRuntime) -> io::Result<()> {
-    let t = text();
-    redirects(&rt, &t)?;
-    locations(&rt, &t)?;
-    answers(&rt, &t)?;
-    hops(&rt, &t)?;
-    most(&rt, &t)
+    // two Locations: the first 12 bytes and the last 13 of 25
+    let t = b"https://a.b/https://c.d?e";
+    redirects(&rt, t)?;
+    locations(&rt, t)?;
+    answers(&rt, t)?;
+    hops(&rt, t)?;
+    most(&rt, t)
 }

@@ -1,11 +1,11 @@
 -- Byte classes, runs of bytes, blanks at the end, and forms. Assumes nothing.
-use mathlib.Core.Path.{◌≡◌, sym, ◌∙◌}
-use mathlib.Core.Bool.{Bool, true, false, ◌&&◌, ◌||◌, not, and-true, and-false}
-use mathlib.Core.List.{[], ◌∷◌, ◌++◌}
-use Prim.Native.Nat.{ℕ, suc, ◌+◌, ◌-◌, ◌≤◌, ◌<◌}
+use mathlib.Core.Path.{◌≡◌, refl, ap, ◌∙◌}
+use mathlib.Core.Bool.{Bool, true, false, ◌||◌, not, and-false}
+use mathlib.Core.List.{[], ◌∷◌}
+use Prim.Native.Nat.{ℕ, zero, suc, ◌+◌, ◌-◌, ◌≤◌, ◌<◌}
 use native.Mathlib.Omega.{arith}
 use lib.ListN.{length, get_or, take, drop, length-drop}
-use lib.Seq.{take-suc, take_all, get_or-drop}
+use lib.Seq.{take_all}
 use lib.Dec.{eqb, leb, ltb}
 use borrow.Author.Rules.{rules}
 use borrow.Author.Tests.{eq-eqb, ne_eqb, lt-ltb, le-leb}
@@ -14,8 +14,6 @@ use Rattle.std.specs.Char.{is_ascii_alphanumeric}
 use Rattle.std.specs.List.{list_any}
 use Rattle.ascii.specs.Ascii.{Bytes, all, is_digit, is_letter, is_upper, text}
 use Rattle.ascii.proofs.Bytes.{agree, agree_where}
-use Rattle.ascii.proofs.ListLaws.{all_both}
-use Rattle.ascii.proofs.Compare.{by_starts, by_ends, by_differs, by_more}
 use Rattle.response_head.specs.ResponseHead.{is_blank, is_text_byte, is_tchar, trim_end, fits_byte}
 use Rattle.response_head.specs.code.Meaning.{Trims}
 
@@ -52,63 +50,45 @@ module _ (b : ℕ) (h : b < 256) where
 
 -- ---- blanks at the end
 
-all_last : (xs : Bytes) (b : ℕ) → all is_blank (xs ++ (b ∷ [])) ≡ (all is_blank xs && is_blank b)
+-- each byte from a place on
+abbrev BlankFrom : Bytes → ℕ → Type 0
+BlankFrom t i = (k : ℕ) → i ≤ k → k < length t → is_blank (get_or t k 0) ≡ true
+
+all_blank : (t : Bytes) → BlankFrom t 0 → all is_blank t ≡ true
 unfolding all
-all_last xs b = rw (all_both is_blank xs (b ∷ []), and-true (is_blank b))
+all_blank [] h = refl
+all_blank (b ∷ t) h = rw (h 0 (omega arith) (omega arith), all_blank t (λ k l m. h (suc k) (omega arith) (omega arith)))
 
-trim_blank : (xs : Bytes) (b : ℕ) → is_blank b ≡ true → trim_end (xs ++ (b ∷ [])) ≡ trim_end xs
-unfolding trim_end all
-trim_blank [] b e = rw e
-trim_blank (x ∷ xs) b e = rw (all_last xs b, e, and-true (all is_blank xs), trim_blank xs b e)
+not_all : (t : Bytes) (i : ℕ) → i < length t → is_blank (get_or t i 0) ≡ false → all is_blank t ≡ false
+unfolding all
+not_all [] i l e = absurd (omega arith)
+not_all (b ∷ t) zero l e = rw e
+not_all (b ∷ t) (suc i) l e = rw (not_all t i (omega arith) e, and-false)
 
-trim_other : (xs : Bytes) (b : ℕ) → is_blank b ≡ false → trim_end (xs ++ (b ∷ [])) ≡ xs ++ (b ∷ [])
-unfolding trim_end all
-trim_other [] b e = rw e
-trim_other (x ∷ xs) b e = rw (all_last xs b, e, and-false (all is_blank xs), and-false (is_blank x), trim_other xs b e)
+trim_blank : (t : Bytes) → BlankFrom t 0 → trim_end t ≡ []
+unfolding trim_end
+trim_blank [] h = refl
+trim_blank (b ∷ t) h = rw (all_blank (b ∷ t) h)
 
--- what stands before end decides
-pub record Trimming (s : Bytes) (from end : ℕ) : Type 0 where
-  pub low : from ≤ end
-  pub high : end ≤ length s
-  pub is : trim_end (take (end - from) (drop from s)) ≡ trim_end (drop from s)
+trim_last : (t : Bytes) (i : ℕ) → i < length t → is_blank (get_or t i 0) ≡ false → BlankFrom t (i + 1) → trim_end t ≡ take (suc i) t
+unfolding trim_end
+trim_last [] i l e h = absurd (omega arith)
+trim_last (b ∷ t) zero l e h = rw (not_all (b ∷ t) 0 l e, trim_blank t (λ k m n. h (suc k) (omega arith) (omega arith)))
+trim_last (b ∷ t) (suc i) l e h = rw (not_all (b ∷ t) (suc i) l e, trim_last t i (omega arith) e (λ k m n. h (suc k) (omega arith) (omega arith)))
 
-pub trim_starts : (s : Bytes) (from : ℕ) → from ≤ length s → Trimming s from (length s)
-trim_starts s from h = record {
-  low = h;
-  high = omega arith;
-  is = rw (take_all (length s - from) (drop from s) (omega (arith, length-drop from s)));
-}
+module _ (s : Bytes) (from : ℕ) {t : Bytes} (e : t ≡ take (length s - from) (drop from s)) (l : from ≤ length s) where
+  rest_is : t ≡ drop from s
+  rest_is = e ∙ take_all (length s - from) (drop from s) (omega (arith, length-drop from s))
 
-module _ {s : Bytes} {from end : ℕ} (R : Trimming s from end) where
-  pub trim_none : end ≤ from → Trims s from from
-  unfolding trim_end
+  pub trim_none : BlankFrom t 0 → Trims s from from
   trim_none h =
-      let z : end ≡ from = omega (arith, R.low) in
-      let y : from - from ≡ 0 = omega arith in
-      record { low = omega arith; high = omega (arith, R.low, R.high); is = (rw y) ∙ rw (z, y) at R.is }
+      let z : from - from ≡ 0 = omega arith in
+      record { low = omega arith; high = l; is = rw (z, ← rest_is, trim_blank t h) }
 
-  module _ (h : from < end) where
-    last_is : take (end - from) (drop from s) ≡ take (end - 1 - from) (drop from s) ++ (get_or s (end - 1) 0 ∷ [])
-    last_is =
-        let j : end - from ≡ suc (end - 1 - from) = omega arith in
-        let k : from + (end - 1 - from) ≡ end - 1 = omega arith in
-        let l : end - 1 - from < length (drop from s) = omega (arith, length-drop from s, R.high) in
-        rw (j, take-suc (drop from s) (end - 1 - from) 0 l, get_or-drop from s (end - 1 - from) 0, k)
-
-    module _ {r : Bool} (e : r ≡ is_blank (get_or s (end - 1) 0)) where
-      pub trim_more : r ≡ true → Trimming s from (end - 1)
-      trim_more f = record {
-        low = omega arith;
-        high = omega (arith, R.high);
-        is = sym (rw last_is (trim_blank (take (end - 1 - from) (drop from s)) (get_or s (end - 1) 0) (sym e ∙ f))) ∙ R.is;
-      }
-
-      pub trim_ends : r ≡ false → Trims s from end
-      trim_ends f = record {
-        low = R.low;
-        high = R.high;
-        is = sym (rw last_is (trim_other (take (end - 1 - from) (drop from s)) (get_or s (end - 1) 0) (sym e ∙ f))) ∙ R.is;
-      }
+  pub trim_some : {i : ℕ} → i < length t → is_blank (get_or t i 0) ≡ false → BlankFrom t (i + 1) → Trims s from (from + i + 1)
+  trim_some {i} m f h =
+      let z : from + i + 1 - from ≡ suc i = omega arith in
+      record { low = omega arith; high = omega (arith, ap length rest_is, length-drop from s); is = rw (z, ← rest_is, trim_last t i m f h) }
 
 -- ---- forms
 
@@ -120,7 +100,7 @@ pub fits_other : (p b : ℕ) → (p ≡ 48 → ⊥) → eqb b p ≡ fits_byte p 
 unfolding fits_byte
 fits_other p b n = rw (ne_eqb p 48 n)
 
-pub ruleset byte_laws = (blank_space, blank_tab, text_low, text_high, tchar_alphanumeric, tchar_mark, trim_starts, trim_none, trim_more, trim_ends, fits_digit, fits_other, by_starts, by_ends, by_differs, by_more, rules)
+pub ruleset byte_laws = (blank_space, blank_tab, text_low, text_high, tchar_alphanumeric, tchar_mark, fits_digit, fits_other, rules)
 
 -- for a return: its law alone, so that a search that finds nothing ends
 pub ruleset mark_laws = (tchar_mark)

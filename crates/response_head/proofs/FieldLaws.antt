@@ -10,6 +10,7 @@ use lib.Seq.{drop-cons, drop-drop, take-take, length-take-le}
 use lib.Dec.{eqb, leb}
 use borrow.Author.Rules.{rules}
 use borrow.Author.Tests.{ne_eqb, eqb-true, leb-true}
+use Rattle.ascii.specs.declared.Span.{Span}
 use Rattle.ascii.specs.Ascii.{Bytes, ◌when◌, all, is_empty, take_while, drop_while, among, is_digit, is_letter, is_upper, same, same_no_case, begins_with, begins_by, text, number16}
 use Rattle.ascii.proofs.Bytes.{implies, each, passes, digit_small, letter_small}
 use Rattle.ascii.proofs.Compare.{by_short}
@@ -18,7 +19,7 @@ use Rattle.ascii.proofs.Scan.{while_all, while_rest, while_part, while_length, s
 use Rattle.response_head.specs.ResponseHead.{is_blank, is_text_byte, is_tchar, is_other, fits_byte, fits_form, status_form, read_status, trim_end, trim, Field, field_of, read_field, is_list_type, is_true, authorized_name, type_name, location_name}
 use Rattle.response_head.specs.code.Meaning.{Trims, field_in, no_field, field, ReadsField, first_by, place_by, seen_with}
 use Rattle.response_head.specs.declared.Place.{Place}
-use Rattle.response_head.specs.declared.Place.TheVariants.{Nowhere, Between, Several}
+use Rattle.response_head.specs.declared.Place.TheVariants.{Nowhere, At, Several}
 use Rattle.response_head.specs.declared.Seen.{Seen}
 
 -- ---- lines are of text bytes
@@ -146,7 +147,7 @@ module _ (l : Bytes) (t : all is_text_byte l ≡ true) {c : ℕ} (e : c ≡ 0 + 
       pub field_from : from ≤ length l
       field_from = scan_to is_blank l (c + 1) from g (omega arith)
 
-      pub field_is : {to : ℕ} → (c ≡ 0 → ⊥) → get_or l c 0 ≡ 58 → Trims l from to → ReadsField l (Some (record { colon = c; from = from; to = to }))
+      pub field_is : {to : ℕ} → (c ≡ 0 → ⊥) → get_or l c 0 ≡ 58 → Trims l from to → ReadsField l (Some (record { colon = c; value = record { from = from; to = to } }))
       unfolding field_in read_field field_of begins_with trim
       field_is n k R = record {
         is =
@@ -191,38 +192,38 @@ pub first_is : (x : Option Bool) (q : Bool) {r : Bool} → r ≡ unwrap_or x q �
 unfolding first_by
 first_is x q e = rw e
 
-module _ {x : Place} (from to : ℕ) where
-  pub place_new : x ≡ Nowhere → Between from to ≡ place_by x from to
+module _ {x : Place} (p : Span) where
+  pub place_new : x ≡ Nowhere → At p ≡ place_by x p
   unfolding place_by
   place_new e = rw e
 
-  pub place_second : {a b : ℕ} → x ≡ Between a b → Several ≡ place_by x from to
+  pub place_second : {q : Span} → x ≡ At q → Several ≡ place_by x p
   unfolding place_by
   place_second e = rw e
 
-  pub place_several : x ≡ Several → Several ≡ place_by x from to
+  pub place_several : x ≡ Several → Several ≡ place_by x p
   unfolding place_by
   place_several e = rw e
 
-module _ (name v : Bytes) (from to : ℕ) (x : Seen) {a : Bool} (e : a ≡ same_no_case name authorized_name) where
+module _ (name v : Bytes) (p : Span) (x : Seen) {a : Bool} (e : a ≡ same_no_case name authorized_name) where
   pub seen_authorized : {q : Bool} {y : Option Bool} → a ≡ true → q ≡ same v (text "true") → y ≡ first_by x.authorized q
-      → record { authorized = y; typed = x.typed; location = x.location } ≡ seen_with name v from to x
+      → record { authorized = y; typed = x.typed; location = x.location } ≡ seen_with name v p x
   unfolding seen_with is_true
   seen_authorized f g h = rw (← e, f, h, g)
 
   module _ {b : Bool} (f : a ≡ false) (g : b ≡ same_no_case name type_name) where
     pub seen_typed : {q : Bool} {y : Option Bool} → b ≡ true → q ≡ is_list_type v → y ≡ first_by x.typed q
-        → record { authorized = x.authorized; typed = y; location = x.location } ≡ seen_with name v from to x
+        → record { authorized = x.authorized; typed = y; location = x.location } ≡ seen_with name v p x
     unfolding seen_with
     seen_typed h k l = rw (← e, f, ← g, h, l, k)
 
     module _ {c : Bool} (h : b ≡ false) (k : c ≡ same_no_case name location_name) where
-      pub seen_location : {y : Place} → c ≡ true → y ≡ place_by x.location from to
-          → record { authorized = x.authorized; typed = x.typed; location = y } ≡ seen_with name v from to x
+      pub seen_location : {y : Place} → c ≡ true → y ≡ place_by x.location p
+          → record { authorized = x.authorized; typed = x.typed; location = y } ≡ seen_with name v p x
       unfolding seen_with
       seen_location l m = rw (← e, f, ← g, h, ← k, l, m)
 
-      pub seen_other : c ≡ false → x ≡ seen_with name v from to x
+      pub seen_other : c ≡ false → x ≡ seen_with name v p x
       unfolding seen_with
       seen_other l = rw (← e, f, ← g, h, ← k, l)
 

@@ -12,12 +12,13 @@ use mir.Syntax.{w64}
 use mir.Val.{Fits}
 use borrow.Author.Rules.{rules}
 use borrow.Author.Tests.{le-leb, lt-leb}
+use Rattle.ascii.specs.declared.Span.{Span}
 use Rattle.ascii.specs.Ascii.{Bytes, ◌>>=◌, ◌when◌, all, is_empty, take_while, join_head, between, begins_with}
 use Rattle.ascii.proofs.ListLaws.{filled}
 use Rattle.ascii.proofs.Split.{Parts}
 use Rattle.response_head.specs.ResponseHead.{is_text_byte, lines_of, read_status, Field, read_field, is_end, read_fields, values_of, first_passes, is_true, is_list_type, only, authorized_name, type_name, location_name, head_of, read_lines, read_head}
 use Rattle.response_head.specs.code.Meaning.{first_of, PlaceIs, nowhere, one, several, Sees, FieldsRead, no_fields, fields, Adds, head_in, no_head, an_answer, a_redirect, ReadsHead, Makes}
-use Rattle.response_head.specs.declared.Place.TheVariants.{Nowhere, Between, Several}
+use Rattle.response_head.specs.declared.Place.TheVariants.{Nowhere, At, Several}
 use Rattle.response_head.specs.declared.Seen.{Seen}
 use Rattle.response_head.specs.declared.Head.{Head as Reading}
 use Rattle.response_head.specs.declared.Head.TheVariants.{Redirect, Answer}
@@ -160,12 +161,12 @@ unfolding first_of first_passes
 right_first p [] = refl
 right_first p (v ∷ vs) = refl
 
-record OneAt (s : Bytes) (vs : List Bytes) (a b : ℕ) : Type 0 where
-  low : a ≤ b
-  high : b ≤ length s
-  is : vs ≡ take (b - a) (drop a s) ∷ []
+record OneAt (s : Bytes) (vs : List Bytes) (p : Span) : Type 0 where
+  low : p.from ≤ p.to
+  high : p.to ≤ length s
+  is : vs ≡ take (p.to - p.from) (drop p.from s) ∷ []
 
-one_at : {s : Bytes} {vs : List Bytes} {a b : ℕ} → PlaceIs s vs (Between a b) → OneAt s vs a b
+one_at : {s : Bytes} {vs : List Bytes} {p : Span} → PlaceIs s vs (At p) → OneAt s vs p
 one_at (one h k e) = record { low = h; high = k; is = rw e }
 
 none_at : {s : Bytes} {vs : List Bytes} → PlaceIs s vs Nowhere → only vs ≡ None
@@ -206,9 +207,9 @@ module _ (status : ℕ) (x : Seen) where
     pub makes_several : x.location ≡ Several → Makes status x None
     makes_several e = makes_none (λ s fs S. many_at (rw e at S.location_is))
 
-    pub makes_redirect : {a b : ℕ} {w : Bool} → x.location ≡ Between a b → w ≡ unwrap_or x.authorized false → Makes status x (Some (Redirect status w a b))
+    pub makes_redirect : {p : Span} {w : Bool} → x.location ≡ At p → w ≡ unwrap_or x.authorized false → Makes status x (Some (Redirect status w p))
     unfolding head_of head_in only
-    makes_redirect {a} {b} {w} e f = record {
+    makes_redirect {p} {w} e f = record {
       is = λ s fs S.
           let O = one_at (rw e at S.location_is) in
           let z : w ≡ first_passes is_true (values_of authorized_name fs) = f ∙ rw S.authorized_is (right_first is_true (values_of authorized_name fs)) in

@@ -12,6 +12,7 @@ use mir.Syntax.{w64}
 use mir.Val.{Fits}
 use borrow.Author.Rules.{rules}
 use borrow.Author.Tests.{ne_eqb, eqb-true}
+use Rattle.ascii.specs.declared.Span.{Span}
 use Rattle.ascii.specs.Ascii.{Bytes, all, take_while, drop_while, join_head, same, same_no_case, lower, lower_byte, is_upper, begins_with}
 use Rattle.ascii.proofs.Scan.{while_all, while_stops, scan_to, scan_from, scan_rest, scan_part}
 use Rattle.ascii.proofs.ListLaws.{all_both}
@@ -157,12 +158,12 @@ unfolding first_of first_by
 first_more p [] v = refl
 first_more p (w ∷ vs) v = refl
 
-place_more : {s : Bytes} {vs : List Bytes} {x : Place} {v : Bytes} (from to : ℕ) → from ≤ to → to ≤ length s → take (to - from) (drop from s) ≡ v
-    → PlaceIs s vs x → PlaceIs s (vs ++ (v ∷ [])) (place_by x from to)
+place_more : {s : Bytes} {vs : List Bytes} {x : Place} {v : Bytes} (p : Span) → p.from ≤ p.to → p.to ≤ length s → take (p.to - p.from) (drop p.from s) ≡ v
+    → PlaceIs s vs x → PlaceIs s (vs ++ (v ∷ [])) (place_by x p)
 unfolding place_by
-place_more from to h k e nowhere = one h k e
-place_more from to h k e (one l m f) = several
-place_more from to h k e several = several
+place_more p h k e nowhere = one h k e
+place_more p h k e (one l m f) = several
+place_more p h k e several = several
 
 -- the three names differ
 module _ (n a b : Bytes) where
@@ -182,8 +183,8 @@ typed_location : same (lower type_name) (lower location_name) ≡ false
 unfolding same lower lower_byte is_upper
 typed_location = refl
 
-module _ {s : Bytes} {fs : List Field} {x : Seen} (S : Sees s fs x) (f : Field) (from to : ℕ) (h : from ≤ to) (k : to ≤ length s) (v : take (to - from) (drop from s) ≡ f.value) where
-  sees_authorized : same_no_case f.name authorized_name ≡ true → Sees s (fs ++ (f ∷ [])) (seen_with f.name f.value from to x)
+module _ {s : Bytes} {fs : List Field} {x : Seen} (S : Sees s fs x) (f : Field) (p : Span) (h : p.from ≤ p.to) (k : p.to ≤ length s) (v : take (p.to - p.from) (drop p.from s) ≡ f.value) where
+  sees_authorized : same_no_case f.name authorized_name ≡ true → Sees s (fs ++ (f ∷ [])) (seen_with f.name f.value p x)
   unfolding seen_with
   sees_authorized a =
       let b = other_name f.name authorized_name type_name authorized_typed a in
@@ -195,7 +196,7 @@ module _ {s : Bytes} {fs : List Field} {x : Seen} (S : Sees s fs x) (f : Field) 
       })
 
   module _ (a : same_no_case f.name authorized_name ≡ false) where
-    sees_typed : same_no_case f.name type_name ≡ true → Sees s (fs ++ (f ∷ [])) (seen_with f.name f.value from to x)
+    sees_typed : same_no_case f.name type_name ≡ true → Sees s (fs ++ (f ∷ [])) (seen_with f.name f.value p x)
     unfolding seen_with
     sees_typed b =
         let c = other_name f.name type_name location_name typed_location b in
@@ -206,16 +207,16 @@ module _ {s : Bytes} {fs : List Field} {x : Seen} (S : Sees s fs x) (f : Field) 
         })
 
     module _ (b : same_no_case f.name type_name ≡ false) where
-      sees_location : same_no_case f.name location_name ≡ true → Sees s (fs ++ (f ∷ [])) (seen_with f.name f.value from to x)
+      sees_location : same_no_case f.name location_name ≡ true → Sees s (fs ++ (f ∷ [])) (seen_with f.name f.value p x)
       unfolding seen_with
       sees_location c =
           rw (a, b, c) (record {
             authorized_is = rw (values_miss authorized_name f a fs, S.authorized_is);
             typed_is = rw (values_miss type_name f b fs, S.typed_is);
-            location_is = rw (values_hit location_name f c fs) (place_more from to h k v S.location_is);
+            location_is = rw (values_hit location_name f c fs) (place_more p h k v S.location_is);
           })
 
-      sees_other : same_no_case f.name location_name ≡ false → Sees s (fs ++ (f ∷ [])) (seen_with f.name f.value from to x)
+      sees_other : same_no_case f.name location_name ≡ false → Sees s (fs ++ (f ∷ [])) (seen_with f.name f.value p x)
       unfolding seen_with
       sees_other c =
           rw (a, b, c) (record {
@@ -224,11 +225,11 @@ module _ {s : Bytes} {fs : List Field} {x : Seen} (S : Sees s fs x) (f : Field) 
             location_is = rw (values_miss location_name f c fs) S.location_is;
           })
 
-  sees_more : Sees s (fs ++ (f ∷ [])) (seen_with f.name f.value from to x)
+  sees_more : Sees s (fs ++ (f ∷ [])) (seen_with f.name f.value p x)
   sees_more = go (same_no_case f.name authorized_name) (same_no_case f.name type_name) (same_no_case f.name location_name) refl refl refl
     where
       go : (u v w : Bool) → same_no_case f.name authorized_name ≡ u → same_no_case f.name type_name ≡ v → same_no_case f.name location_name ≡ w
-          → Sees s (fs ++ (f ∷ [])) (seen_with f.name f.value from to x)
+          → Sees s (fs ++ (f ∷ [])) (seen_with f.name f.value p x)
       go true v w a b c = sees_authorized a
       go false true w a b c = sees_typed a b
       go false false true a b c = sees_location a b c
@@ -236,8 +237,8 @@ module _ {s : Bytes} {fs : List Field} {x : Seen} (S : Sees s fs x) (f : Field) 
 
 record FieldInside (l : Bytes) (p : FieldLine) : Type 0 where
   name_end : p.colon ≤ length l
-  low : p.from ≤ p.to
-  high : p.to ≤ length l
+  low : p.value.from ≤ p.value.to
+  high : p.value.to ≤ length l
 
 field_inside : {l : Bytes} {p : FieldLine} → FieldPlaced l (Some p) → FieldInside l p
 field_inside (field h k m) = record { name_end = h; low = k; high = m }
@@ -260,42 +261,43 @@ module _ {s : Bytes} {at end : ℕ} (L : TextLine s at end) {q : Option FieldLin
     name_at : at + p.colon ≤ end
     name_at = omega (arith, I.name_end, line_length, L.low)
 
-    value_at : at + p.to ≤ end
+    value_at : at + p.value.to ≤ end
     value_at = omega (arith, I.high, line_length, L.low)
 
     pub adds_name : at + p.colon ≤ length s
     adds_name = omega (arith, name_at, L.high)
 
-    pub adds_value : at + p.to ≤ length s
+    pub adds_value : at + p.value.to ≤ length s
     adds_value = omega (arith, value_at, L.high)
 
-    pub adds_order : at + p.from ≤ at + p.to
+    pub adds_order : at + p.value.from ≤ at + p.value.to
     adds_order = omega (arith, I.low)
 
     pub adds_fits_name : length s < 2 ^ 64 → Fits w64 (at + p.colon)
     adds_fits_name h = record { fits = omega (arith, adds_name) }
 
-    pub adds_fits_from : length s < 2 ^ 64 → Fits w64 (at + p.from)
+    pub adds_fits_from : length s < 2 ^ 64 → Fits w64 (at + p.value.from)
     adds_fits_from h = record { fits = omega (arith, adds_value, I.low) }
 
-    pub adds_fits_to : length s < 2 ^ 64 → Fits w64 (at + p.to)
+    pub adds_fits_to : length s < 2 ^ 64 → Fits w64 (at + p.value.to)
     adds_fits_to h = record { fits = omega (arith, adds_value) }
 
     pub name_is : take (at + p.colon - at) (drop at s) ≡ take p.colon (take (end - at) (drop at s))
     name_is = let z : at + p.colon - at ≡ p.colon = omega arith in rw z (sym (take-take p.colon (end - at) (drop at s) (omega (arith, name_at))))
 
-    pub value_is : take (at + p.to - (at + p.from)) (drop (at + p.from) s) ≡ take (p.to - p.from) (drop p.from (take (end - at) (drop at s)))
+    pub value_is : take (at + p.value.to - (at + p.value.from)) (drop (at + p.value.from) s) ≡ take (p.value.to - p.value.from) (drop p.value.from (take (end - at) (drop at s)))
     value_is =
-        let z : at + p.to - (at + p.from) ≡ p.to - p.from = omega arith in
-        rw z (sym (part_of (p.to - p.from) p.from (end - at) (drop at s) (omega (arith, value_at, I.low)) ∙ rw (drop-drop p.from at s)))
+        let z : at + p.value.to - (at + p.value.from) ≡ p.value.to - p.value.from = omega arith in
+        rw z (sym (part_of (p.value.to - p.value.from) p.value.from (end - at) (drop at s) (omega (arith, value_at, I.low)) ∙ rw (drop-drop p.value.from at s)))
 
-    pub adds_one : (x : Seen) {y : Seen} → y ≡ seen_with (take (at + p.colon - at) (drop at s)) (take (at + p.to - (at + p.from)) (drop (at + p.from) s)) (at + p.from) (at + p.to) x → Adds s at end x (Some y)
-    adds_one x {y} e = record {
+    pub adds_one : (x : Seen) {v : Bytes} {y : Seen} → v ≡ take (at + p.value.to - (at + p.value.from)) (drop (at + p.value.from) s)
+        → y ≡ seen_with (take (at + p.colon - at) (drop at s)) v (record { from = at + p.value.from; to = at + p.value.to }) x → Adds s at end x (Some y)
+    adds_one x {v} {y} w e = record {
       is = λ fs S.
-          let f : Field = record { name = take p.colon (take (end - at) (drop at s)); value = take (p.to - p.from) (drop p.from (take (end - at) (drop at s))) } in
+          let f : Field = record { name = take p.colon (take (end - at) (drop at s)); value = take (p.value.to - p.value.from) (drop p.value.from (take (end - at) (drop at s))) } in
           let r : read_field (take (end - at) (drop at s)) ≡ Some f = sym (unfold field_in in Q.is) in
-          let z : y ≡ seen_with f.name f.value (at + p.from) (at + p.to) x = e ∙ rw (name_is, value_is) in
-          rw (r, z) (fields (sees_more S f (at + p.from) (at + p.to) adds_order adds_value value_is));
+          let z : y ≡ seen_with f.name f.value (record { from = at + p.value.from; to = at + p.value.to }) x = e ∙ rw (name_is, w, value_is) in
+          rw (r, z) (fields (sees_more S f (record { from = at + p.value.from; to = at + p.value.to }) adds_order adds_value value_is));
     }
 
 pub ruleset line_laws = (line_is, line_fits, line_high, adds_none, adds_name, adds_value, adds_order, adds_fits_name, adds_fits_from, adds_fits_to, adds_one, rules)

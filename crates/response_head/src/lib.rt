@@ -6,15 +6,16 @@ ghost use Rattle.ascii.specs.Ascii.{all, take_while};
 ghost use Rattle.response_head.specs.ResponseHead.{is_blank, is_text_byte, is_tchar, is_other, fits_byte, fits_form, read_status, is_list_type, lines_of, read_fields, read_lines, read_head};
 ghost use Rattle.response_head.specs.code.Meaning.{Trims, ReadsField, first_by, place_by, seen_with, TextLine, Adds, FieldsRead, Makes, ReadsHead};
 
-// What a whole head says: status and authorized header of a redirect, with the places of its Location; status and right type of
+use ascii::Span;
+
+// What a whole head says: status and authorized header of a redirect, with the place of its Location; status and right type of
 // an answer.
 #[derive(Clone, Copy)]
 pub enum Head {
     Redirect {
         status: u16,
         authorized: bool,
-        from: usize,
-        to: usize,
+        location: Span,
     },
     Answer {
         status: u16,
@@ -22,20 +23,19 @@ pub enum Head {
     },
 }
 
-// A field line: the place of its colon, and the two places between which its value stands, without the blanks around it.
+// A field line: the place of its colon, and where its value stands, without the blanks around it.
 #[derive(Clone, Copy)]
 struct FieldLine {
     colon: usize,
-    from: usize,
-    to: usize,
+    value: Span,
 }
 
-// The value of the Location lines: between two places, where there is one line. No Option: no line and several differ, since one
+// The value of the Location lines: where it stands, where there is one line. No Option: no line and several differ, since one
 // more makes one of the first.
 #[derive(Clone, Copy)]
 enum Place {
     Nowhere,
-    Between(usize, usize),
+    At(Span),
     Several,
 }
 
@@ -88,12 +88,10 @@ fn trim_end(s: &[u8], from: usize) -> usize
     requires { from ≤ length s.now }
     ensures { Trims s.now from result }
 {
-    for last in (from..s.len()).rev() {
-        if !is_blank(s[last]) {
-            return last + 1;
-        }
+    match s[from..].iter().rposition(|b| !is_blank(*b)) {
+        Some(last) => from + last + 1,
+        None => from,
     }
-    from
 }
 
 // ---- lines
@@ -113,13 +111,7 @@ fn fits_form(form: &[u8], s: &[u8]) -> bool
     requires { length form.now ≤ length s.now }
     ensures { result ≡ fits_form form.now s.now }
 {
-    // by index: of `zip` with `all` the proof did not close
-    for i in 0..form.len() {
-        if !fits_byte(form[i], s[i]) {
-            return false;
-        }
-    }
-    true
+    form.iter().zip(s).all(|(p, b)| fits_byte(*p, *b))
 }
 
 // The status of a status line; the line is of text bytes.
@@ -154,7 +146,8 @@ fn read_field(line: &[u8]) -> Option<FieldLine>
     }
     let from = ascii::run_end(line, colon + 1, is_blank);
     let to = trim_end(line, from);
-    Some(FieldLine { colon, from, to })
+    let value = Span { from, to };
+    Some(FieldLine { colon, value })
 }
 
 // ---- fields
@@ -183,19 +176,19 @@ fn first_by(x: Option<bool>, right: bool) -> Option<bool>
 }
 
 // One Location line more.
-fn place_by(x: Place, from: usize, to: usize) -> Place
-    ensures { result ≡ place_by x from to }
+fn place_by(x: Place, value: Span) -> Place
+    ensures { result ≡ place_by x value }
 {
     match x {
-        Place::Nowhere => Place::Between(from, to),
-        Place::Between(_, _) => Place::Several,
+        Place::Nowhere => Place::At(value),
+        Place::At(_) => Place::Several,
         Place::Several => Place::Several,
     }
 }
 
-// One field more, whose value stands between two places of the head.
-fn seen_with(name: &[u8], value: &[u8], from: usize, to: usize, x: Seen) -> Seen
-    ensures { result ≡ seen_with name.now value.now from to x }
+// One field more, whose value stands at a place of the head.
+fn seen_with(name: &[u8], value: &[u8], place: Span, x: Seen) -> Seen
+    ensures { result ≡ seen_with name.now value.now place x }
 {
     if ascii::equal_no_case(name, b"FIDO-AppID-Redirect-Authorized") {
         return Seen {
@@ -211,7 +204,7 @@ fn seen_with(name: &[u8], value: &[u8], from: usize, to: usize, x: Seen) -> Seen
     }
     if ascii::equal_no_case(name, b"Location") {
         return Seen {
-            location: place_by(x.location, from, to),
+            location: place_by(x.location, place),
             ..x
         };
     }
@@ -225,9 +218,11 @@ fn field_seen(s: &[u8], at: usize, end: usize, x: Seen) -> Option<Seen>
 {
     let line = read_field(&s[at..end])?;
     let name_end = at + line.colon;
-    let from = at + line.from;
-    let to = at + line.to;
-    Some(seen_with(&s[at..name_end], &s[from..to], from, to, x))
+    let place = Span {
+        from: at + line.value.from,
+        to: at + line.value.to,
+    };
+    Some(seen_with(&s[at..name_end], place.of(s), place, x))
 }
 
 // The field lines from a place on, the empty line last and nothing behind it. A `while`: each line is looked at for its end, then
@@ -273,11 +268,10 @@ fn reading_of(status: u16, x: Seen) -> Option<Head>
         return Some(Head::Answer { status, typed });
     }
     match x.location {
-        Place::Between(from, to) => Some(Head::Redirect {
+        Place::At(location) => Some(Head::Redirect {
             status,
             authorized: x.authorized.unwrap_or(false),
-            from,
-            to,
+            location,
         }),
         Place::Nowhere => None,
         Place::Several => None,

@@ -1,17 +1,20 @@
 -- The kinds of bytes, and the table of them. Assumes nothing.
 use Rattle.std.specs.Prelude.{if◌then◌else◌, None, Some}
-use mathlib.Core.Path.{◌≡◌, refl, sym}
+use mathlib.Core.Path.{◌≡◌, refl, sym, ◌∙◌}
 use mathlib.Core.Bool.{Bool, true, false, and-false}
-use Prim.Native.Nat.{ℕ, ◌+◌, ◌-◌, ◌*◌, ◌≤◌, ◌<◌}
+use denote.Param.Members.{Mut}
+use Rattle.std.specs.Fn.{Called}
+use Rattle.std.specs.Array.{IsFromFnResult, IsFromFnResultFrom}
+use Prim.Native.Nat.{ℕ, zero, suc, ◌+◌, ◌-◌, ◌*◌, ◌≤◌, ◌<◌}
 use native.Mathlib.Omega.{arith}
 use lib.ListN.{length, get_or, get_or-eq_default}
 use lib.Dec.{eqb, ltb}
 use borrow.Author.Rules.{rules}
-use borrow.Author.Tests.{eq-eqb, ne_eqb, lt-leb, le-leb, lt-ltb, le-ltb}
+use borrow.Author.Tests.{eq-eqb, ne_eqb, eqb-true, eqb-false, lt-leb, le-leb, lt-ltb, le-ltb}
 use Rattle.ascii.specs.Ascii.{Bytes, is_digit, is_letter, is_upper, lower_byte}
 use Rattle.ascii.specs.Class.{class_of}
 use Rattle.ascii.proofs.Bytes.{agree}
-use Rattle.suffix.specs.code.Idle.{last_byte, is_alphanumeric, kind_of, step_of, stop_of}
+use Rattle.suffix.specs.code.Idle.{KindsOf, last_byte, is_alphanumeric, kind_of, step_of, stop_of}
 use Rattle.suffix.specs.declared.skips.Stop.TheVariants.{Host, Other}
 
 pub last_none : (s : Bytes) → length s ≡ 0 → 0 ≡ last_byte s
@@ -60,9 +63,18 @@ kind_lf last b e = kind_at last b 10 e refl
 
 -- ---- the table
 
-pub record Filled (last : ℕ) (kinds : Bytes) (i : ℕ) : Type 0 where
-  pub long : length kinds ≡ 256
-  pub is : (b : ℕ) → b < i → get_or kinds b 0 ≡ kind_of last b
+-- where each call gives the kind of its byte
+module _ {F : Type 0} {g : Mut F (ℕ × Unit {0}) ℕ} {f : F} (last : ℕ) (told : (b k : ℕ) (q : F) → Called g f (b, tt) k q → (q ≡ f) × (k ≡ kind_of last b)) where
+  filled_from : (table : Bytes) (i n b : ℕ) → IsFromFnResultFrom g f table i n → i ≤ b → b < i + n → get_or table b 0 ≡ kind_of last b
+  filled_from table i zero b c l m = absurd (omega arith)
+  filled_from table i (suc n) b (q, k, e, c, r) l m = go (eqb b i) refl (filled_from table (i + 1) n b (rw (told i k q c).0 at r))
+    where
+      go : (u : Bool) → eqb b i ≡ u → (i + 1 ≤ b → b < i + 1 + n → get_or table b 0 ≡ kind_of last b) → get_or table b 0 ≡ kind_of last b
+      go true z ih = rw (eqb-true b i z) (e.1 0 ∙ (told i k q c).1)
+      go false z ih = let w = eqb-false b i z in ih (omega arith) (omega arith)
+
+  pub kinds_filled : (host table : Bytes) → last ≡ last_byte host → IsFromFnResult g f table 256 → KindsOf host table
+  kinds_filled host table e R = record { is = λ b l. rw (← e) (filled_from table 0 256 b R.each (omega arith) (omega arith)) }
 
 -- ---- one byte on
 

@@ -9,12 +9,15 @@ use mir.Syntax.{w64}
 use lib.ListN.{length, get_or, take, drop}
 use lib.Dec.{ltb}
 use borrow.Author.Rules.{rules}
+use borrow.Author.Tests.{ltb-true}
+use Rattle.std.specs.Prelude.{Option, Some}
+use Rattle.std.proofs.lemmas.List.{get_or_read}
 use Rattle.ascii.specs.Ascii.{Bytes, take_while, last_of}
 use Rattle.ascii.proofs.Scan.{scan_to}
 use Rattle.hosts.specs.Host.{labels}
 use Rattle.hosts.specs.code.Place.{Stands, ends_at_label}
 use Rattle.suffix.specs.code.Pass.{in_line}
-use Rattle.suffix.specs.code.Idle.{Idle, Skipped, HostLine, Stopped, at_host, at_other, Shallow, ShallowBy}
+use Rattle.suffix.specs.code.Idle.{Idle, Skipped, SkippedLine, no_line, one_line, HostLine, Stopped, at_host, at_other, Shallow, ShallowBy}
 use Rattle.suffix.specs.declared.skips.Stop.{Stop}
 use Rattle.suffix.specs.declared.skips.Stop.TheVariants.{Host, Other}
 use Rattle.suffix.proofs.Climbs.{past_is}
@@ -25,24 +28,34 @@ use Rattle.suffix.proofs.IdleLines.{idle_none, idle_on, idle_empty, idle_comment
 pub skipped_none : (s : Bytes) (at : ℕ) → at ≤ length s → Skipped s at at
 skipped_none s at h = record { onward = omega arith; inside = omega arith; is = λ host. idle_none host s at (omega arith) }
 
-pub skipped_here : (s : Bytes) (at : ℕ) → at < length s → Skipped s at at
-skipped_here s at h = skipped_none s at (omega arith)
-
-pub skipped_on : {s : Bytes} {from at to : ℕ} → Skipped s from at → Skipped s at to → Skipped s from to
+skipped_on : {s : Bytes} {from at to : ℕ} → Skipped s from at → Skipped s at to → Skipped s from to
 skipped_on {s} P Q = record { onward = omega (arith, P.onward, Q.onward); inside = Q.inside; is = λ host. idle_on host s (P.is host) (Q.is host) }
 
 skipped_all : {s : Bytes} {from to : ℕ} → ((host : Bytes) → Idle host s from to) → Skipped s from to
 skipped_all f = record { onward = (f []).onward; inside = (f []).inside; is = f }
 
-pub skipped_empty : (s : Bytes) (at : ℕ) → at < length s → get_or s at 0 ≡ 10 → Skipped s at (at + 1)
-skipped_empty s at h e = skipped_all (λ host. idle_empty host s at h e)
+-- what is got at a place stands there
+got : (s : Bytes) {i b d : ℕ} → true ≡ ltb i (length s) → b ≡ get_or s i b → b ≡ d → (i < length s) × (get_or s i 0 ≡ d)
+got s {i} {b} h e f = let l = ltb-true i (length s) (sym h) in (l, sym (get_or_read s i b l e 0) ∙ f)
 
-pub skipped_comment : (s : Bytes) {at to : ℕ} → to ≡ at + 2 + length (take_while in_line (drop (at + 2) s)) → at < length s → 2 ≤ length s - at
-    → get_or s at 0 ≡ 47 → get_or s (at + 1) 0 ≡ 47 → Skipped s at (to + 1)
-skipped_comment s {at} g h l e f = skipped_all (λ host. idle_comment host s at h (omega arith) e f g)
+pub line_skipped : (s : Bytes) {at b : ℕ} → true ≡ ltb at (length s) → b ≡ get_or s at b → b ≡ 10 → SkippedLine s at (Some (at + 1))
+line_skipped s {at} h e f = let g = got s h e f in one_line g.0 (omega arith) (skipped_all (λ host. idle_empty host s at g.0 g.1))
 
-pub skipped_fits : (s : Bytes) {at to : ℕ} → to ≡ at + 2 + length (take_while in_line (drop (at + 2) s)) → 2 ≤ length s - at → at < length s → length s * 1 < 2 ^ 63 → Fits w64 (to + 1)
-skipped_fits s {at} {to} g h l m = record { fits = omega (arith, scan_to in_line s (at + 2) to g (omega arith)) }
+module _ (s : Bytes) (at : ℕ) {to : ℕ} (h : true ≡ ltb (at + 1) (length s)) (t : to ≡ at + 2 + length (take_while in_line (drop (at + 2) s))) where
+  pub comment_fits : length s * 1 < 2 ^ 63 → Fits w64 (to + 1)
+  comment_fits m = let l = ltb-true (at + 1) (length s) (sym h) in record { fits = omega (arith, scan_to in_line s (at + 2) to t (omega arith)) }
+
+  pub comment_skipped : {b c : ℕ} → true ≡ ltb at (length s) → b ≡ get_or s at b → b ≡ 47 → c ≡ get_or s (at + 1) c → c ≡ 47 → SkippedLine s at (Some (to + 1))
+  comment_skipped k e f i j =
+      let b = got s k e f in
+      let c = got s h i j in
+      one_line b.0 (omega (arith, t)) (skipped_all (λ host. idle_comment host s at b.0 c.0 b.1 c.1 t))
+
+passed_over : {s : Bytes} {at next : ℕ} → SkippedLine s at (Some next) → Skipped s at next
+passed_over (one_line h l S) = S
+
+pub skipped_more : {s : Bytes} {from at next : ℕ} {q : Option ℕ} → Skipped s from at → SkippedLine s at q → q ≡ Some next → Skipped s from next
+skipped_more S L e = skipped_on S (passed_over (rw e at L))
 
 -- ---- lines that find nothing
 
@@ -127,11 +140,11 @@ shallow_starts host table m d last from = record { onward = omega arith; is = λ
 
 pub ruleset skip_laws = (
   skipped_none,
-  skipped_here,
-  skipped_on,
-  skipped_empty,
-  skipped_comment,
-  skipped_fits,
+  no_line,
+  line_skipped,
+  comment_fits,
+  comment_skipped,
+  skipped_more,
   host_stop,
   host_passed,
   other_stop,

@@ -7,13 +7,14 @@ use native.Mathlib.Omega.{arith}
 use lib.Dec.{eqb}
 use lib.ListN.{length}
 use Rattle.ascii.specs.Ascii.{Bytes, filter_by}
-use Rattle.trusted_list.specs.code.Entries.{first_entry}
 use Rattle.entries.specs.Causes.{cause}
-use Rattle.entries.specs.code.Reading.{ReadsOf, IdsThere, entries_at, left}
+use Rattle.entries.specs.code.Selecting.{listed}
+use Rattle.entries.specs.code.Walking.{to_come, Walk, Advances}
+use Rattle.entries.specs.declared.selected.Selected.{Selected}
+use Rattle.entries.specs.declared.walk.Entries.{Entries}
 use Rattle.entries.specs.declared.Cause.{Cause}
 use Rattle.entries.specs.declared.Cause.TheVariants.{TooLong, OtherScheme, NotFacet, OtherLabel}
-use Rattle.entries.specs.declared.Entry.{Entry}
-use Rattle.entries.proofs.Walks.{Walk, walk_starts, walk_over, Turn, turn, next_less}
+use Rattle.entries.proofs.Walks.{list_short, all_gone, Turn, turn, turn_less}
 use Rattle.tally.specs.Tally.{cause_number, Counts, count_of, counts}
 use Rattle.tally.specs.code.Meaning.{counts_of, one, plus, Under}
 use Rattle.tally.specs.declared.Counts.{Counts as Held}
@@ -88,14 +89,13 @@ module _ (c : Held) {x : Option Cause} where
 
 -- ---- the loop
 
--- the entries es are to come, after those that c counts
-pub record Counting (appid table body : Bytes) (goal : Counts) (held : Bytes) (at : Option ℕ) (c : Held) : Type 0 where
+-- the walk goes on, after the entries that c counts
+pub record Counting (l : Selected) (goal : Counts) (w : Entries) (c : Held) : Type 0 where
+  pub list_is : w.list.now ≡ l
   pub turns : ℕ
-  pub short : length body ≤ 65536
   pub small : Under turns c
-  pub es : List Bytes
-  pub walk : Walk appid table body held turns at es
-  pub is : plus (counts_of c) (counts appid table es) ≡ goal
+  pub few : turns + length (to_come w) ≤ 65536
+  pub is : plus (counts_of c) (counts l.appid.now l.table.now (to_come w)) ≡ goal
 
 under_more : {n : ℕ} {c r : Held} (x : Option Cause) → counts_of r ≡ plus (counts_of c) (one x) → Under n c → Under (suc n) r
 unfolding counts_of plus
@@ -116,47 +116,44 @@ under_more {n} {c} {r} x e U =
     one_small (Some NotFacet) = unfold one in (omega arith, omega arith, omega arith, omega arith, omega arith)
     one_small (Some OtherLabel) = unfold one in (omega arith, omega arith, omega arith, omega arith, omega arith)
 
-pub count_starts : (appid table body held : Bytes) (ids : ℕ) {at : Option ℕ} → IdsThere body ids → length body ≤ 65536 → length held ≡ 512 → at ≡ first_entry body ids
-    → Counting appid table body (counts appid table (entries_at body ids)) held at (record { kept = 0; long = 0; scheme = 0; facet = 0; label = 0 })
-count_starts appid table body held ids T l w e = record {
+pub count_starts : {l : Selected} {w : Entries} → Walk l (listed l) w → Counting l (counts l.appid.now l.table.now (listed l)) w (record { kept = 0; long = 0; scheme = 0; facet = 0; label = 0 })
+count_starts {l} {w} W = record {
+  list_is = W.list_is;
   turns = 0;
-  short = l;
   small = record { kept = omega arith; long = omega arith; scheme = omega arith; facet = omega arith; label = omega arith };
-  es = entries_at body ids;
-  walk = walk_starts appid table body held ids T w e;
-  is = plus_nothing (counts appid table (entries_at body ids));
+  few = omega (arith, ap length W.coming_is, list_short l);
+  is = plus_nothing (counts l.appid.now l.table.now (to_come w)) ∙ ap (counts l.appid.now l.table.now) W.coming_is;
 }
 
-module _ {appid table body : Bytes} {goal : Counts} {held : Bytes} {at : Option ℕ} {c : Held} (S : Counting appid table body goal held at c) where
-  pub count_over : at ≡ None → counts_of c ≡ goal
-  count_over h = sym (ap (plus (counts_of c)) (ap (counts appid table) (walk_over S.walk h) ∙ counts_none appid table) ∙ plus_none (counts_of c)) ∙ S.is
+module _ {l : Selected} {goal : Counts} {w : Entries} {c : Held} (S : Counting l goal w c) {v : Entries} {r : Option (Option Cause)} (A : Advances w v r) where
+  pub count_over : r ≡ None → counts_of c ≡ goal
+  count_over h = sym (ap (plus (counts_of c)) (ap (counts l.appid.now l.table.now) (all_gone A h) ∙ counts_none l.appid.now l.table.now) ∙ plus_none (counts_of c)) ∙ S.is
 
-  module _ {i : ℕ} (h : at ≡ Some i) {after : Bytes} {r : Entry} (R : ReadsOf body i appid table held after r) where
-    T : Turn appid table body after S.turns S.es r
-    T = turn S.walk h R
+  module _ {x : Option Cause} (h : r ≡ Some x) where
+    T : Turn l w v x
+    T = turn A S.list_is h
 
-    pub count_less : left body r.next < left body at
-    count_less = next_less S.walk h R
+    pub count_less : length (to_come v) < length (to_come w)
+    count_less = turn_less T
 
     pub count_room : Under 65536 c
     count_room =
         let U = S.small in
-        let l = T.some_left in
         record {
-          kept = omega (arith, U.kept, S.short);
-          long = omega (arith, U.long, S.short);
-          scheme = omega (arith, U.scheme, S.short);
-          facet = omega (arith, U.facet, S.short);
-          label = omega (arith, U.label, S.short);
+          kept = omega (arith, U.kept, S.few, count_less);
+          long = omega (arith, U.long, S.few, count_less);
+          scheme = omega (arith, U.scheme, S.few, count_less);
+          facet = omega (arith, U.facet, S.few, count_less);
+          label = omega (arith, U.label, S.few, count_less);
         }
 
-    pub count_more : (d : Held) → counts_of d ≡ plus (counts_of c) (one r.cause) → Counting appid table body goal after r.next d
-    count_more d a = record { turns = suc S.turns; short = S.short; small = under_more {c = c} {r = d} r.cause a S.small; es = T.rest; walk = T.walk; is = is }
+    pub count_more : (d : Held) → counts_of d ≡ plus (counts_of c) (one x) → Counting l goal v d
+    count_more d a = record { list_is = T.list_is; turns = suc S.turns; small = under_more {c = c} {r = d} x a S.small; few = omega (arith, S.few, count_less); is = is }
       where
-        is : plus (counts_of d) (counts appid table T.rest) ≡ goal
+        is : plus (counts_of d) (counts l.appid.now l.table.now (to_come v)) ≡ goal
         is =
-            ap (λ (y : Counts). plus y (counts appid table T.rest)) a
-            ∙ plus_assoc (counts_of c) (one r.cause) (counts appid table T.rest)
-            ∙ ap (λ (y : Option Cause). plus (counts_of c) (plus (one y) (counts appid table T.rest))) T.cause_is
-            ∙ ap (plus (counts_of c)) (sym (counts_more appid table T.entry T.rest) ∙ ap (counts appid table) (sym T.whole))
+            ap (λ (y : Counts). plus y (counts l.appid.now l.table.now (to_come v))) a
+            ∙ plus_assoc (counts_of c) (one x) (counts l.appid.now l.table.now (to_come v))
+            ∙ ap (λ (y : Option Cause). plus (counts_of c) (plus (one y) (counts l.appid.now l.table.now (to_come v)))) T.cause_is
+            ∙ ap (plus (counts_of c)) (sym (counts_more l.appid.now l.table.now T.entry (to_come v)) ∙ ap (counts l.appid.now l.table.now) (sym T.whole))
             ∙ S.is

@@ -7,7 +7,6 @@ ghost use Rattle.tally.specs.Tally.{counts, tally};
 ghost use Rattle.tally.specs.code.Meaning.{counts_of, tally_of, one, plus, Under};
 
 use entries::{Cause, Selected};
-use json_text::Decoded;
 use refusals::Refusal;
 use trusted_list::Version;
 
@@ -54,10 +53,6 @@ fn add(c: Counts, cause: Option<Cause>) -> Counts
 fn count_ids(list: &Selected) -> Counts
     ensures { counts_of result ≡ counts list.now.appid.now list.now.table.now (listed list.now) }
 {
-    let mut d = Decoded {
-        bytes: [0u8; 512],
-        len: 0,
-    };
     let mut c = Counts {
         kept: 0,
         long: 0,
@@ -65,13 +60,9 @@ fn count_ids(list: &Selected) -> Counts
         facet: 0,
         label: 0,
     };
-    let mut at = list.first();
-    // entry after entry: an iterator would have to copy what is held of each
-    while let Some(i) = at {
-        let entry = list.read(&mut d.bytes, i);
-        d.len = entry.len;
-        at = entry.next;
-        c = add(c, entry.cause);
+    let mut entries = list.entries();
+    while let Some(cause) = entries.advance() {
+        c = add(c, cause);
     }
     c
 }

@@ -13,11 +13,11 @@ use Rattle.json_text.specs.Reader.{Read, got, bad, Reader, ◌>>◌, give, fail,
 use Rattle.json_text.specs.Lexical.{ws, read_string}
 use Rattle.json_text.specs.code.Places.{Peeked, read_at, place_of}
 use Rattle.json_text.proofs.Steps.{wide, seen, peeks, on, then_bad, one_yes, one_no, next_yes, next_no, give_at, fail_at, giving_at, counted_at, is_one, not_one}
+use Rattle.json_text.proofs.TakenApart.{bound}
 use Rattle.json_values.specs.Json.{Json, string, array, to_items, items, listed, read_value, value_read, value_of, read_array, read_object}
 use Rattle.trusted_list.specs.TrustedList.{as_array, as_string, strings, read_ids}
 use Rattle.trusted_list.specs.code.Slots.{ids_at, is_string}
 use Rattle.trusted_list.specs.code.Entries.{to_first, to_next, first_entry, next_entry, Coming, over, comes}
-use Rattle.trusted_list.proofs.MemberLaws.{bound}
 use Rattle.trusted_list.proofs.FirstByte.{given, array_at, string_first, not_array}
 
 -- ---- the code's steps

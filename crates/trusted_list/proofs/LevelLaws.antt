@@ -3,7 +3,7 @@ use Rattle.std.specs.Prelude.{if◌then◌else◌, Option, None, Some}
 use mathlib.Core.Path.{◌≡◌, refl, sym, ap, ◌∙◌}
 use mathlib.Core.Bool.{Bool, true, false, ◌&&◌, not, and-true}
 use mathlib.Core.List.{List, [], ◌∷◌, ◌++◌}
-use Prim.Native.Nat.{ℕ, suc, ◌+◌}
+use Prim.Native.Nat.{ℕ, suc, ◌+◌, ◌-◌, ◌≤◌}
 use native.Mathlib.Omega.{arith}
 use lib.Dec.{eqb}
 use borrow.Author.Tests.{eq-eqb, ne_eqb}
@@ -13,36 +13,56 @@ use Rattle.json_text.specs.code.Places.{Peeked, read_at, place_of}
 use Rattle.json_text.specs.code.PlainString.{AsciiString, is_short, is_unknown}
 use Rattle.json_text.proofs.Steps.{wide, among_not, found, missed}
 use Rattle.json_values.proofs.Values.{value_string}
-use Rattle.json_values.specs.Json.{Json, array, object, to_items, to_members, read_member, read_value, value_read, listed}
-use Rattle.trusted_list.specs.TrustedList.{as_object, as_array, as_string, values_of, only, once, read_number16, Version, read_version, strings, read_ids, Listing, read_listing, listings, read_listings, read_list, is_wanted, select}
-use Rattle.trusted_list.specs.code.Slots.{Relates, Extends, Came, Once, never, one, again, Name, Names, reading, number_slot, NumberIs, version_slot, VersionIs, version_of, ids_at, IdsIs, no_ids, ids_held, is_string, strings_slot, Strings, ListingIs, no_listing, not_wanted, the_wanted, listing_of, Selects, misshapen, nothing, selects, Listings, ListIs, earlier, BodyIs, no_list, list_is}
+use Rattle.json_values.proofs.Readings.{was_read, not_read, is_read, no_read}
+use Rattle.json_values.specs.Json.{Json, array, object, to_items, to_members, read_value, value_read, listed}
+use Rattle.json_values.specs.code.Folds.{reading, Relates}
+use Rattle.trusted_list.specs.TrustedList.{as_string, values_of, only, once, read_number16, Version, read_version, strings, read_ids, Listing, read_listing, listings, read_listings, read_list, is_wanted, select}
+use Rattle.trusted_list.specs.code.Slots.{Extends, Came, Once, never, one, again, Name, Names, number_slot, NumberIs, version_slot, VersionIs, version_of, ids_at, IdsIs, no_ids, ids_held, is_string, strings_slot, Strings, ids_of, ListingIs, no_listing, not_wanted, the_wanted, listing_of, Selects, misshapen, nothing, selects, Listings, ListIs, earlier, BodyIs, no_list, list_is}
+use Rattle.trusted_list.specs.code.Levels.{Item, opening, closing, read_item, whole, Another, Closes, ElseSpoiled}
+use Rattle.trusted_list.specs.code.LevelFacts.{spoiled_came}
+use Rattle.trusted_list.specs.declared.Kind.{Kind}
+use Rattle.trusted_list.specs.declared.Kind.TheVariants.{Array, Object}
 use Rattle.trusted_list.specs.declared.Slot.{Slot}
 use Rattle.trusted_list.specs.declared.Slot.TheVariants.{Absent, Held, Other, Spoiled}
 use Rattle.trusted_list.specs.declared.Two.{Two}
-use Rattle.trusted_list.proofs.Walks.{was_read, not_read, is_read, no_read}
 use Rattle.trusted_list.proofs.MemberLaws.{Short, Apart}
 use Rattle.trusted_list.proofs.FirstByte.{object_at, array_at, string_first, not_object, not_array}
 
--- ---- an object, an array
+-- ---- a level: an array or an object
 
-module _ {s : Bytes} {i : ℕ} {b : Option ℕ} (g : Peeked s i b) (d : ℕ) {q : Option (ℕ × Two)} where
-  module _ {R : List (Bytes × Json) → Two → Type 0} (h : wide b ≡ 123) (E : Relates R (read_at (listed (read_member (read_value d)) (125 ∷ [])) s (i + 1)) (reading q)) where
-    pub object_stuck : {P : Json → Slot → Type 0} (n : ℕ) → q ≡ None → suc d ≡ n → Relates P (read_at (read_value n) s i) (reading None)
-    unfolding mapped
-    object_stuck n f e = rw (← e) (no_read (object_at g d h ∙ rw (not_read E f)))
+module _ {s : Bytes} {i : ℕ} {b : Option ℕ} (g : Peeked s i b) (n : ℕ) (o : 1 ≤ n) where
+  level_at : (k : Kind) → wide b ≡ opening k → read_at (read_value n) s i ≡ mapped (whole k) (read_at (listed (read_item k (n - 1)) (closing k ∷ [])) s (i + 1))
+  unfolding opening closing
+  level_at Array h = let e : n ≡ suc (n - 1) = omega (arith, o) in ap (λ m. read_at (read_value m) s i) e ∙ array_at g (n - 1) h
+  level_at Object h = let e : n ≡ suc (n - 1) = omega (arith, o) in ap (λ m. read_at (read_value m) s i) e ∙ object_at g (n - 1) h
 
-    object_has : {j : ℕ} {x : Two} → q ≡ Some (j, x) → (ms : List (Bytes × Json)) × (read_at (read_value (suc d)) s i ≡ got (object (to_members ms)) j) × R ms x
+  module _ (k : Kind) {R : List (Item k) → Two → Type 0} {q : Option (ℕ × Two)} {P : Json → Slot → Type 0} (h : wide b ≡ opening k)
+      (E : Relates R (read_at (listed (read_item k (n - 1)) (closing k ∷ [])) s (i + 1)) (reading q)) where
+    pub level_stuck : q ≡ None → Relates P (read_at (read_value n) s i) (reading None)
     unfolding mapped
-    object_has n = let H = was_read E n in (H.value, object_at g d h ∙ ap (mapped (λ ms. object (to_members ms))) H.read, H.is)
+    level_stuck f = no_read (level_at k h ∙ rw (not_read E f))
 
-  module _ {R : List Json → Two → Type 0} (h : wide b ≡ 91) (E : Relates R (read_at (listed (read_value d) (93 ∷ [])) s (i + 1)) (reading q)) where
-    pub array_stuck : {P : Json → Slot → Type 0} (n : ℕ) → q ≡ None → suc d ≡ n → Relates P (read_at (read_value n) s i) (reading None)
-    unfolding mapped
-    array_stuck n f e = rw (← e) (no_read (array_at g d h ∙ rw (not_read E f)))
+  pub level_closed : (k : Kind) {R : Bytes → List (Item k) → Two → Type 0} {q : Option (ℕ × Two)} {P : Bytes → Json → Slot → Type 0} {j : ℕ} {x : Two} {y : Slot} → wide b ≡ opening k
+      → Relates (R s) (read_at (listed (read_item k (n - 1)) (closing k ∷ [])) s (i + 1)) (reading q) → q ≡ Some (j, x) → Closes k n i R x P y → Relates (P s) (read_at (read_value n) s i) (reading (Some (j, y)))
+  unfolding mapped
+  level_closed k {j} h E f C =
+      let H = was_read E f in
+      let r = level_at k h ∙ ap (mapped (whole k)) H.read in
+      is_read (record { value = whole k H.value; read = r; is = C.is s j H.value r H.is })
 
-    array_has : {j : ℕ} {x : Two} → q ≡ Some (j, x) → (vs : List Json) × (read_at (read_value (suc d)) s i ≡ got (array (to_items vs)) j) × R vs x
-    unfolding mapped
-    array_has n = let H = was_read E n in (H.value, array_at g d h ∙ ap (mapped (λ vs. array (to_items vs))) H.read, H.is)
+  another : (k : Kind) {v : Json} {j : ℕ} → read_at (read_value n) s i ≡ got v j → among (opening k ∷ []) (wide b) ≡ false → Another k v
+  unfolding opening
+  another Array r f = not_array g n r (among_not (wide b) 91 f)
+  another Object r f = not_object g n r (among_not (wide b) 123 f)
+
+  pub level_not : (k : Kind) {P : Json → Slot → Type 0} {q : Option ℕ} {j : ℕ} → ElseSpoiled k P → among (opening k ∷ []) (wide b) ≡ false
+      → q ≡ place_of (read_at (read_value n) s i) → q ≡ Some j → Relates P (read_at (read_value n) s i) (reading (Some (j, Spoiled)))
+  level_not k S f e h =
+      let F = found (read_at (read_value n) s i) e h in
+      is_read (record { value = F.0; read = F.1; is = S.is F.0 (another k F.1 f) })
+
+differs_held : (p : ℕ) → Held p ≡ Absent → ⊥
+differs_held p z = let w : ◌≡◌ {A = ℕ} 0 1 = cc in omega arith
 
 -- ---- `version`
 
@@ -89,29 +109,9 @@ module _ (major minor : ℕ) where
   unfolding read_version once
   version_tree_lem ms N = version_of_lem (number_once N.first_is) (number_once N.second_is)
 
-  no_version : (v : Json) → as_object v ≡ None → Spoiled ≡ version_slot major minor (read_version v)
-  unfolding read_version version_slot
-  no_version v e = rw e
-
-  module _ {s : Bytes} {i : ℕ} {b : Option ℕ} (g : Peeked s i b) where
-    pub version_held : {q : Option (ℕ × Two)} {j : ℕ} {x : Two} {y : Slot} → wide b ≡ 123 → Relates (Names (text "major") (text "minor") NumberIs NumberIs) (read_at (listed (read_member (read_value 12)) (125 ∷ [])) s (i + 1)) (reading q)
-        → q ≡ Some (j, x) → y ≡ version_of major minor x.first x.second → Relates (Came (VersionIs major minor)) (read_at (read_value 13) s i) (reading (Some (j, y)))
-    version_held {x} {y} h E n e =
-        let H = object_has g 12 h E n in
-        is_read (record {
-          value = object (to_members H.0);
-          read = H.1;
-          is = record { is = record { is = e ∙ version_tree_lem H.0 H.2 }; there = λ z. there x.first x.second (sym e ∙ z) };
-        })
-
-    pub version_not : {q : Option ℕ} {j : ℕ} → among (123 ∷ []) (wide b) ≡ false → q ≡ place_of (read_at (read_value 13) s i) → q ≡ Some j
-        → Relates (Came (VersionIs major minor)) (read_at (read_value 13) s i) (reading (Some (j, Spoiled)))
-    version_not n e h =
-        let f = found (read_at (read_value 13) s i) e h in
-        is_read (record { value = f.0; read = f.1; is = record { is = record { is = no_version f.0 (not_object g 13 f.1 (among_not (wide b) 123 n)) }; there = λ z. differs z } })
-      where
-        differs : Spoiled ≡ Absent → ⊥
-        differs z = let w : ◌≡◌ {A = ℕ} 0 1 = cc in omega arith
+  pub version_closes : {i : ℕ} {x : Two} {y : Slot} → y ≡ version_of major minor x.first x.second
+      → Closes Object 13 i (λ s. Names (text "major") (text "minor") NumberIs NumberIs) x (λ s. Came (VersionIs major minor)) y
+  version_closes {x} e = record { is = λ s j ms r N. record { is = record { is = e ∙ version_tree_lem ms N }; there = λ z. there x.first x.second (sym e ∙ z) } }
 
 -- ---- `ids`
 
@@ -138,7 +138,7 @@ module _ (s : Bytes) (at : ℕ) {x : Two} {q : Option ℕ} (e : q ≡ place_of (
         on : (done : List Json) (v : Json) → is_string v ≡ true → strings_slot (done ++ v ∷ []) ≡ strings_slot done
         on done v t = unfold strings_slot in (rw (all_append done v, t, and-true (all is_string done)))
 
-    pub ids_item_other : among (34 ∷ []) (wide b) ≡ false → Relates (Extends Strings x) (read_at (read_value 12) s at) (reading (Some (j, (record { first = Spoiled; second = Absent }))))
+    pub ids_item_other : among (34 ∷ []) (wide b) ≡ false → Relates (Extends Strings x) (read_at (read_value 12) s at) (reading (Some (j, (record { first = Spoiled; second = x.second }))))
     ids_item_other c =
         let f = found (read_at (read_value 12) s at) e h in
         let t : is_string f.0 ≡ false = string_first g 12 f.1 ∙ ne_eqb (wide b) 34 (among_not (wide b) 34 c) in
@@ -157,10 +157,6 @@ ids_item_short s at {x} {j} A h = go A h
     go : {q : Option ℕ} → AsciiString s at q → q ≡ Some j → Relates (Extends Strings x) (read_at (read_value 12) s at) (reading (Some (j, x)))
     go (is_short {j = k} g e) h = let z : k ≡ j = cc in ids_item_string s at (value_string 12 g refl refl e) g (ap Some z) refl
     go is_unknown h = let w : ◌≡◌ {A = ℕ} 0 1 = cc in absurd (omega arith)
-
-pub strings_start : Strings [] (record { first = Other; second = Absent })
-unfolding strings_slot all
-strings_start = record { is = refl }
 
 data StringsOf : Option (List Bytes) → Bool → Type 0 where
   are_strings : {xs : List Bytes} → StringsOf (Some xs) true
@@ -184,71 +180,18 @@ ids_array : (vs : List Json) → read_ids (array (to_items vs)) ≡ strings (to_
 unfolding read_ids
 ids_array vs = refl
 
-no_array : (v : Json) → as_array v ≡ None → read_ids v ≡ None
-unfolding read_ids
-no_array v e = rw e
+ids_found : (s : Bytes) (i j : ℕ) (vs : List Json) → read_at (read_value 13) s i ≡ got (array (to_items vs)) j → Came (IdsIs s) (array (to_items vs)) (ids_of i (strings_slot vs))
+unfolding ids_of strings_slot
+ids_found s i j vs r = go (strings (to_items vs)) (all is_string vs) refl (strings_of vs)
+  where
+    go : (p : Option (List Bytes)) (u : Bool) → strings (to_items vs) ≡ p → StringsOf p u → Came (IdsIs s) (array (to_items vs)) (ids_of i (if u then Other else Spoiled))
+    go None false e no_strings = spoiled_came (no_ids (ids_array vs ∙ e))
+    go (Some xs) true e are_strings = record { is = ids_held (ids_array vs ∙ e) (ids_at_lem s i r ∙ ids_array vs ∙ e); there = differs_held i }
+    go None true e x = elim x [ ]
+    go (Some xs) false e x = elim x [ ]
 
-differs_spoiled : Spoiled ≡ Absent → ⊥
-differs_spoiled z = let w : ◌≡◌ {A = ℕ} 0 1 = cc in omega arith
-
-differs_held : (p : ℕ) → Held p ≡ Absent → ⊥
-differs_held p z = let w : ◌≡◌ {A = ℕ} 0 1 = cc in omega arith
-
-module _ {s : Bytes} {i : ℕ} {b : Option ℕ} (g : Peeked s i b) where
-  module _ {q : Option (ℕ × Two)} {j : ℕ} {x : Two} (h : wide b ≡ 91) (E : Relates Strings (read_at (listed (read_value 12) (93 ∷ [])) s (i + 1)) (reading q)) (n : q ≡ Some (j, x)) where
-    pub ids_are : x.first ≡ Other → Relates (Came (IdsIs s)) (read_at (read_value 13) s i) (reading (Some (j, Held i)))
-    ids_are o =
-        let H = array_has g 12 h E n in
-        is_read (record { value = array (to_items H.0); read = H.1; is = record { is = go H.0 H.1 (sym H.2.is ∙ o); there = λ z. differs_held i z } })
-      where
-        go : (vs : List Json) → read_at (read_value 13) s i ≡ got (array (to_items vs)) j → strings_slot vs ≡ Other → IdsIs s (array (to_items vs)) (Held i)
-        go vs r o = by (strings (to_items vs)) (all is_string vs) refl refl (strings_of vs)
-          where
-            by : (p : Option (List Bytes)) (u : Bool) → strings (to_items vs) ≡ p → all is_string vs ≡ u → StringsOf p u → IdsIs s (array (to_items vs)) (Held i)
-            by None false e f no_strings = absurd (spoilt o f)
-              where
-                spoilt : strings_slot vs ≡ Other → all is_string vs ≡ false → ⊥
-                spoilt o f = unfold strings_slot in (let c : (if all is_string vs then Other else Spoiled) ≡ Spoiled = rw f in let z : ◌≡◌ {A = ℕ} 0 1 = cc in omega arith)
-            by (Some xs) true e f are_strings = ids_held (ids_array vs ∙ e) (ids_at_lem s i r ∙ ids_array vs ∙ e)
-            by None true e f x = elim x [ ]
-            by (Some xs) false e f x = elim x [ ]
-
-    pub ids_are_not : x.first ≡ Spoiled → Relates (Came (IdsIs s)) (read_at (read_value 13) s i) (reading (Some (j, Spoiled)))
-    ids_are_not o =
-        let H = array_has g 12 h E n in
-        is_read (record { value = array (to_items H.0); read = H.1; is = record { is = go H.0 (sym H.2.is ∙ o); there = λ z. differs_spoiled z } })
-      where
-        go : (vs : List Json) → strings_slot vs ≡ Spoiled → IdsIs s (array (to_items vs)) Spoiled
-        go vs o = by (strings (to_items vs)) (all is_string vs) refl refl (strings_of vs)
-          where
-            by : (p : Option (List Bytes)) (u : Bool) → strings (to_items vs) ≡ p → all is_string vs ≡ u → StringsOf p u → IdsIs s (array (to_items vs)) Spoiled
-            by None false e f no_strings = no_ids (ids_array vs ∙ e)
-            by None true e f x = elim x [ ]
-            by (Some xs) false e f x = elim x [ ]
-            by (Some xs) true e f are_strings = absurd (good o f)
-              where
-                good : strings_slot vs ≡ Spoiled → all is_string vs ≡ true → ⊥
-                good o f = unfold strings_slot in (let c : (if all is_string vs then Other else Spoiled) ≡ Other = rw f in let z : ◌≡◌ {A = ℕ} 0 1 = cc in omega arith)
-
-    strings_two : (vs : List Json) → (strings_slot vs ≡ Absent → ⊥) × ((p : ℕ) → strings_slot vs ≡ Held p → ⊥)
-    unfolding strings_slot
-    strings_two vs = go (all is_string vs)
-      where
-        go : (u : Bool) → ((if u then Other else Spoiled) ≡ Absent → ⊥) × ((p : ℕ) → (if u then Other else Spoiled) ≡ Held p → ⊥)
-        go true = ((λ z. let w : ◌≡◌ {A = ℕ} 0 1 = cc in omega arith), (λ p z. let w : ◌≡◌ {A = ℕ} 0 1 = cc in omega arith))
-        go false = ((λ z. let w : ◌≡◌ {A = ℕ} 0 1 = cc in omega arith), (λ p z. let w : ◌≡◌ {A = ℕ} 0 1 = cc in omega arith))
-
-    pub ids_never : x.first ≡ Absent → Relates (Came (IdsIs s)) (read_at (read_value 13) s i) (reading (Some (j, Spoiled)))
-    ids_never o = let H = array_has g 12 h E n in absurd ((strings_two H.0).0 (sym H.2.is ∙ o))
-
-    pub ids_nowhere : {p : ℕ} → x.first ≡ Held p → Relates (Came (IdsIs s)) (read_at (read_value 13) s i) (reading (Some (j, Spoiled)))
-    ids_nowhere {p} o = let H = array_has g 12 h E n in absurd ((strings_two H.0).1 p (sym H.2.is ∙ o))
-
-  pub ids_not : {q : Option ℕ} {j : ℕ} → among (91 ∷ []) (wide b) ≡ false → q ≡ place_of (read_at (read_value 13) s i) → q ≡ Some j
-      → Relates (Came (IdsIs s)) (read_at (read_value 13) s i) (reading (Some (j, Spoiled)))
-  ids_not n e h =
-      let f = found (read_at (read_value 13) s i) e h in
-      is_read (record { value = f.0; read = f.1; is = record { is = no_ids (no_array f.0 (not_array g 13 f.1 (among_not (wide b) 91 n))); there = λ z. differs_spoiled z } })
+pub ids_closes : {i : ℕ} {x : Two} {y : Slot} → y ≡ ids_of i x.first → Closes Array 13 i (λ s. Strings) x (λ s. Came (IdsIs s)) y
+ids_closes {i} e = record { is = λ s j vs r S. rw (e, S.is) (ids_found s i j vs r) }
 
 -- ---- an object of the list
 
@@ -313,22 +256,9 @@ module _ (s : Bytes) (major minor : ℕ) where
   unfolding read_listing once
   listing_tree_lem ms N = to_listing (object (to_members ms)) _ refl (listing_of_lem (version_once major minor N.first_is) (ids_once N.second_is))
 
-  object_only : (v : Json) → as_object v ≡ None → read_listing v ≡ None
-  unfolding read_listing
-  object_only v e = rw e
-
-module _ {s : Bytes} {i : ℕ} {b : Option ℕ} (g : Peeked s i b) (major minor : ℕ) where
-  pub listing_held : {q : Option (ℕ × Two)} {j : ℕ} {x : Two} {y : Slot} → wide b ≡ 123
-      → Relates (Names (text "version") (text "ids") (VersionIs major minor) (IdsIs s)) (read_at (listed (read_member (read_value 13)) (125 ∷ [])) s (i + 1)) (reading q)
-      → q ≡ Some (j, x) → y ≡ listing_of x.first x.second → Relates (ListingIs s major minor) (read_at (read_value 14) s i) (reading (Some (j, y)))
-  listing_held {x} {y} h E n e =
-      let H = object_has g 13 h E n in
-      is_read (record { value = object (to_members H.0); read = H.1; is = rw e (listing_tree_lem s major minor H.0 H.2) })
-
-  pub listing_not : {q : Option ℕ} {j : ℕ} → among (123 ∷ []) (wide b) ≡ false → q ≡ place_of (read_at (read_value 14) s i) → q ≡ Some j → Relates (ListingIs s major minor) (read_at (read_value 14) s i) (reading (Some (j, Spoiled)))
-  listing_not n e h =
-      let f = found (read_at (read_value 14) s i) e h in
-      is_read (record { value = f.0; read = f.1; is = no_listing (object_only s major minor f.0 (not_object g 14 f.1 (among_not (wide b) 123 n))) })
+pub listing_closes : {major minor i : ℕ} {x : Two} {y : Slot} → y ≡ listing_of x.first x.second
+    → Closes Object 14 i (λ s. Names (text "version") (text "ids") (VersionIs major minor) (IdsIs s)) x (λ s. ListingIs s major minor) y
+listing_closes {major} {minor} e = record { is = λ s j ms r N. rw e (listing_tree_lem s major minor ms N) }
 
 -- ---- the list
 
@@ -372,17 +302,13 @@ module _ (s : Bytes) (at major minor : ℕ) {x : Two} {q : Option (ℕ × Slot)}
   list_item_stuck h = no_read (not_read E h)
 
   pub list_item_more : {j : ℕ} {y z : Slot} → q ≡ Some (j, y) → z ≡ earlier x.first y
-      → Relates (Extends (Listings s major minor) x) (read_at (read_value 14) s at) (reading (Some (j, (record { first = z; second = Absent }))))
+      → Relates (Extends (Listings s major minor) x) (read_at (read_value 14) s at) (reading (Some (j, (record { first = z; second = x.second }))))
   list_item_more h e =
       let H = was_read E h in
       is_read (record { value = H.value; read = H.read; is = record { is = λ done L. record { is = rw (e, listings_append done H.value) (one_more major minor s L.is H.is) } } })
 
-pub listings_start : (s : Bytes) (major minor : ℕ) → Listings s major minor [] (record { first = Other; second = Absent })
-unfolding to_items listings select
-listings_start s major minor = record { is = nothing refl }
-
 selects_there : {s : Bytes} {major minor : ℕ} {o : Option (List Listing)} {x : Slot} → Selects s major minor o x → x ≡ Absent → ⊥
-selects_there misshapen z = differs_spoiled z
+selects_there misshapen z = let w : ◌≡◌ {A = ℕ} 0 1 = cc in omega arith
 selects_there (nothing e) z = let w : ◌≡◌ {A = ℕ} 0 1 = cc in omega arith
 selects_there (selects {p} e f) z = differs_held p z
 
@@ -390,27 +316,10 @@ list_array : (vs : List Json) → read_listings (array (to_items vs)) ≡ listin
 unfolding read_listings
 list_array vs = refl
 
-array_only : (v : Json) → as_array v ≡ None → read_listings v ≡ None
-unfolding read_listings
-array_only v e = rw e
-
-module _ {s : Bytes} {i : ℕ} {b : Option ℕ} (g : Peeked s i b) (major minor : ℕ) where
-  pub list_held : {q : Option (ℕ × Two)} {j : ℕ} {x : Two} → wide b ≡ 91 → Relates (Listings s major minor) (read_at (listed (read_value 14) (93 ∷ [])) s (i + 1)) (reading q)
-      → q ≡ Some (j, x) → Relates (Came (ListIs s major minor)) (read_at (read_value 15) s i) (reading (Some (j, x.first)))
-  list_held h E n =
-      let H = array_has g 14 h E n in
-      is_read (record { value = array (to_items H.0); read = H.1; is = record { is = record { is = rw (list_array H.0) H.2.is }; there = selects_there H.2.is } })
-
-  pub list_not : {q : Option ℕ} {j : ℕ} → among (91 ∷ []) (wide b) ≡ false → q ≡ place_of (read_at (read_value 15) s i) → q ≡ Some j → Relates (Came (ListIs s major minor)) (read_at (read_value 15) s i) (reading (Some (j, Spoiled)))
-  list_not n e h =
-      let f = found (read_at (read_value 15) s i) e h in
-      is_read (record { value = f.0; read = f.1; is = record { is = record { is = rw (array_only f.0 (not_array g 15 f.1 (among_not (wide b) 91 n))) misshapen }; there = λ z. differs_spoiled z } })
+pub list_closes : {major minor i : ℕ} (x : Two) → Closes Array 15 i (λ s. Listings s major minor) x (λ s. Came (ListIs s major minor)) x.first
+list_closes x = record { is = λ s j vs r L. record { is = record { is = rw (list_array vs) L.is }; there = selects_there L.is } }
 
 -- ---- the body
-
-pub name_start : (a : Bytes) (P : Json → Slot → Type 0) → Name a P [] (record { first = Absent; second = Absent })
-unfolding to_members values_of
-name_start a P = record { is = never }
 
 pub facets_short : Short (text "trustedFacets")
 facets_short = record { is = omega arith }
@@ -431,18 +340,5 @@ module _ (s : Bytes) (major minor : ℕ) where
       list_of : (ms : List (Bytes × Json)) → read_list (object (to_members ms)) ≡ (only (values_of (text "trustedFacets") (to_members ms)) >>= read_listings)
       list_of ms = unfold read_list once in refl
 
-  body_only : (v : Json) → as_object v ≡ None → read_list v ≡ None
-  unfolding read_list
-  body_only v e = rw e
-
-module _ {s : Bytes} {i : ℕ} {b : Option ℕ} (g : Peeked s i b) (major minor : ℕ) where
-  pub body_held : {q : Option (ℕ × Two)} {j : ℕ} {x : Two} → wide b ≡ 123 → Relates (Name (text "trustedFacets") (ListIs s major minor)) (read_at (listed (read_member (read_value 15)) (125 ∷ [])) s (i + 1)) (reading q)
-      → q ≡ Some (j, x) → Relates (BodyIs s major minor) (read_at (read_value 16) s i) (reading (Some (j, x.first)))
-  body_held h E n =
-      let H = object_has g 15 h E n in
-      is_read (record { value = object (to_members H.0); read = H.1; is = body_tree s major minor H.0 H.2 })
-
-  pub body_not : {q : Option ℕ} {j : ℕ} → among (123 ∷ []) (wide b) ≡ false → q ≡ place_of (read_at (read_value 16) s i) → q ≡ Some j → Relates (BodyIs s major minor) (read_at (read_value 16) s i) (reading (Some (j, Spoiled)))
-  body_not n e h =
-      let f = found (read_at (read_value 16) s i) e h in
-      is_read (record { value = f.0; read = f.1; is = list_is {x = Spoiled} (rw (body_only s major minor f.0 (not_object g 16 f.1 (among_not (wide b) 123 n))) misshapen) })
+pub body_closes : {major minor i : ℕ} (x : Two) → Closes Object 16 i (λ s. Name (text "trustedFacets") (ListIs s major minor)) x (λ s. BodyIs s major minor) x.first
+body_closes {major} {minor} x = record { is = λ s j ms r N. body_tree s major minor ms N }

@@ -14,12 +14,13 @@ use Rattle.json_text.specs.Lexical.{ws}
 use Rattle.json_text.specs.code.Places.{read_at}
 use Rattle.json_text.proofs.Steps.{on, then_bad, give_at}
 use Rattle.json_values.specs.Json.{Json, read_value, read_text, value_read, read_json}
+use Rattle.json_values.specs.code.Folds.{reading, Relates}
+use Rattle.json_values.proofs.Readings.{Has, was_read, not_read}
 use Rattle.refusals.specs.declared.Refusal.TheVariants.{LongList, Unreadable, Misshapen, NoVersion}
 use Rattle.trusted_list.specs.TrustedList.{Listing, read_list, select, read_body, selected, list_refusal, entries}
-use Rattle.trusted_list.specs.code.Slots.{Relates, reading, ids_at, Selects, misshapen, nothing, selects, BodyIs, no_list, list_is, Answers, is_refused, is_selected}
+use Rattle.trusted_list.specs.code.Slots.{ids_at, Selects, misshapen, nothing, selects, BodyIs, no_list, list_is, Answers, is_refused, is_selected}
 use Rattle.trusted_list.specs.declared.Slot.{Slot}
 use Rattle.trusted_list.specs.declared.Slot.TheVariants.{Absent, Held, Other, Spoiled}
-use Rattle.trusted_list.proofs.Walks.{Has, was_read, not_read}
 
 -- ---- the text
 

@@ -1,6 +1,5 @@
 -- The shape of each value of the list, by what the pass holds.
 use mathlib.Core.Path.{◌≡◌, refl, sym, ◌∙◌}
-use mathlib.Core.List.{[]}
 use Rattle.std.specs.Prelude.{Option, None, Some}
 use Prim.Native.Nat.{ℕ, ◌-◌, ◌≤◌}
 use native.Mathlib.Omega.{arith}
@@ -8,13 +7,14 @@ use lib.ListN.{length, take, drop}
 use Rattle.ascii.specs.Ascii.{Bytes, same, text, number16}
 use Rattle.json_text.specs.code.Places.{read_at, place_of}
 use Rattle.json_text.proofs.Steps.{peeks, found, missed}
-use Rattle.json_values.specs.Json.{Json, to_members, read_value}
+use Rattle.json_values.specs.Json.{Json, read_value}
+use Rattle.json_values.specs.code.Folds.{reading, Relates}
 use Rattle.json_values.proofs.Sizes.{value_spans}
-use Rattle.trusted_list.specs.TrustedList.{values_of, read_number16}
-use Rattle.trusted_list.specs.code.Slots.{Relates, Came, never, Names, reading, number_slot, NumberIs}
+use Rattle.json_values.proofs.Readings.{is_read, no_read}
+use Rattle.trusted_list.specs.TrustedList.{read_number16}
+use Rattle.trusted_list.specs.code.Slots.{Came, number_slot, NumberIs}
 use Rattle.trusted_list.specs.declared.Slot.{Slot}
 use Rattle.trusted_list.specs.declared.Slot.TheVariants.{Absent, Held, Spoiled}
-use Rattle.trusted_list.proofs.Walks.{is_read, no_read}
 use Rattle.trusted_list.proofs.FirstByte.{number_text}
 use Rattle.trusted_list.proofs.MemberLaws.{Apart}
 
@@ -52,10 +52,6 @@ module _ (s : Bytes) (i d : ℕ) {q : Option ℕ} (e : q ≡ place_of (read_at (
           differs z = let w : ◌≡◌ {A = ℕ} 0 1 = cc in omega arith
 
 -- ---- names of an object
-
-pub names_start : (a b : Bytes) (P Q : Json → Slot → Type 0) → Names a b P Q [] (record { first = Absent; second = Absent })
-unfolding to_members values_of
-names_start a b P Q = record { first_is = never; second_is = never }
 
 pub major_minor : Apart (text "major") (text "minor")
 unfolding same

@@ -1,27 +1,47 @@
 -- What the pass holds of two values together: one law for each way through the code.
+use Rattle.std.specs.Prelude.{Option, None, Some}
 use mathlib.Core.Path.{◌≡◌, refl}
 use Prim.Native.Nat.{ℕ}
 use borrow.Author.Tests.{eq-eqb, ne_eqb}
-use Rattle.trusted_list.specs.code.Slots.{fill, version_of, listing_of, earlier}
+use Rattle.trusted_list.specs.code.Slots.{fill, first_filled, second_filled, version_of, ids_of, listing_of, earlier}
 use Rattle.trusted_list.specs.declared.Slot.{Slot}
 use Rattle.trusted_list.specs.declared.Slot.TheVariants.{Absent, Held, Other, Spoiled}
+use Rattle.trusted_list.specs.declared.Two.{Two}
+
+-- ---- a value of one name more
+
+module _ (x : Two) {w : Option (ℕ × Slot)} where
+  module _ (e : w ≡ None) where
+    pub first_none : None ≡ first_filled x w
+    unfolding first_filled
+    first_none = rw e
+
+    pub second_none : None ≡ second_filled x w
+    unfolding second_filled
+    second_none = rw e
+
+  module _ {j : ℕ} {y z : Slot} (e : w ≡ Some (j, y)) where
+    pub first_some : z ≡ fill x.first y → Some (j, (record { first = z; second = x.second })) ≡ first_filled x w
+    unfolding first_filled
+    first_some f = rw (e, f)
+
+    pub second_some : z ≡ fill x.second y → Some (j, (record { first = x.first; second = z })) ≡ second_filled x w
+    unfolding second_filled
+    second_some f = rw (e, f)
 
 module _ (x y : Slot) where
   pub fill_absent : x ≡ Absent → y ≡ fill x y
   unfolding fill
   fill_absent e = rw e
 
-  pub fill_held : {p : ℕ} → x ≡ Held p → Spoiled ≡ fill x y
-  unfolding fill
-  fill_held e = rw e
-
-  pub fill_other : x ≡ Other → Spoiled ≡ fill x y
-  unfolding fill
-  fill_other e = rw e
-
-  pub fill_spoiled : x ≡ Spoiled → Spoiled ≡ fill x y
-  unfolding fill
-  fill_spoiled e = rw e
+  pub fill_not : (x ≡ Absent → ⊥) → Spoiled ≡ fill x y
+  fill_not n = spoiled x n
+    where
+      spoiled : (x : Slot) → (x ≡ Absent → ⊥) → Spoiled ≡ fill x y
+      spoiled Absent n = absurd (n refl)
+      spoiled (Held p) n = unfold fill in refl
+      spoiled Other n = unfold fill in refl
+      spoiled Spoiled n = unfold fill in refl
 
   -- ---- `major` and `minor`
 
@@ -40,29 +60,39 @@ module _ (x y : Slot) where
         unfolding version_of
         wanted_version m n = rw (e, f, eq-eqb a major m, eq-eqb b minor n)
 
-      pub minor_absent : y ≡ Absent → Spoiled ≡ version_of major minor x y
-      unfolding version_of
-      minor_absent f = rw (e, f)
+      pub no_minor : ((b : ℕ) → y ≡ Held b → ⊥) → Spoiled ≡ version_of major minor x y
+      no_minor n = rw e (spoiled y n)
+        where
+          spoiled : (y : Slot) → ((b : ℕ) → y ≡ Held b → ⊥) → Spoiled ≡ version_of major minor (Held a) y
+          spoiled Absent n = unfold version_of in refl
+          spoiled (Held b) n = absurd (n b refl)
+          spoiled Other n = unfold version_of in refl
+          spoiled Spoiled n = unfold version_of in refl
 
-      pub minor_other : y ≡ Other → Spoiled ≡ version_of major minor x y
-      unfolding version_of
-      minor_other f = rw (e, f)
+    pub no_major : ((a : ℕ) → x ≡ Held a → ⊥) → Spoiled ≡ version_of major minor x y
+    no_major n = spoiled x n
+      where
+        spoiled : (x : Slot) → ((a : ℕ) → x ≡ Held a → ⊥) → Spoiled ≡ version_of major minor x y
+        spoiled Absent n = unfold version_of in refl
+        spoiled (Held a) n = absurd (n a refl)
+        spoiled Other n = unfold version_of in refl
+        spoiled Spoiled n = unfold version_of in refl
 
-      pub minor_spoiled : y ≡ Spoiled → Spoiled ≡ version_of major minor x y
-      unfolding version_of
-      minor_spoiled f = rw (e, f)
+  -- ---- the items of `ids`
 
-    pub major_absent : x ≡ Absent → Spoiled ≡ version_of major minor x y
-    unfolding version_of
-    major_absent e = rw e
+  module _ (p : ℕ) where
+    pub items_other : x ≡ Other → Held p ≡ ids_of p x
+    unfolding ids_of
+    items_other e = rw e
 
-    pub major_other : x ≡ Other → Spoiled ≡ version_of major minor x y
-    unfolding version_of
-    major_other e = rw e
-
-    pub major_spoiled : x ≡ Spoiled → Spoiled ≡ version_of major minor x y
-    unfolding version_of
-    major_spoiled e = rw e
+    pub items_not : (x ≡ Other → ⊥) → Spoiled ≡ ids_of p x
+    items_not n = none x n
+      where
+        none : (x : Slot) → (x ≡ Other → ⊥) → Spoiled ≡ ids_of p x
+        none Other n = absurd (n refl)
+        none Absent n = unfold ids_of in refl
+        none (Held q) n = unfold ids_of in refl
+        none Spoiled n = unfold ids_of in refl
 
   -- ---- `version` and `ids`
 
@@ -75,43 +105,28 @@ module _ (x y : Slot) where
     unfolding listing_of
     listing_other e = rw (e, f)
 
-    pub version_absent : x ≡ Absent → Spoiled ≡ listing_of x y
-    unfolding listing_of
-    version_absent e = rw e
+    pub no_version : ((n : ℕ) → x ≡ Held n → ⊥) → (x ≡ Other → ⊥) → Spoiled ≡ listing_of x y
+    no_version n o = rw f (spoiled x n o)
+      where
+        spoiled : (x : Slot) → ((n : ℕ) → x ≡ Held n → ⊥) → (x ≡ Other → ⊥) → Spoiled ≡ listing_of x (Held p)
+        spoiled Absent n o = unfold listing_of in refl
+        spoiled (Held m) n o = absurd (n m refl)
+        spoiled Other n o = absurd (o refl)
+        spoiled Spoiled n o = unfold listing_of in refl
 
-    pub version_spoiled : x ≡ Spoiled → Spoiled ≡ listing_of x y
-    unfolding listing_of
-    version_spoiled e = rw e
-
-  pub ids_absent : y ≡ Absent → Spoiled ≡ listing_of x y
-  unfolding listing_of
-  ids_absent f = rw f (none x)
+  pub no_ids_held : ((p : ℕ) → y ≡ Held p → ⊥) → Spoiled ≡ listing_of x y
+  no_ids_held n = spoiled x y n
     where
-      none : (x : Slot) → Spoiled ≡ listing_of x Absent
-      none Absent = refl
-      none (Held n) = refl
-      none Other = refl
-      none Spoiled = refl
-
-  pub ids_other : y ≡ Other → Spoiled ≡ listing_of x y
-  unfolding listing_of
-  ids_other f = rw f (none x)
-    where
-      none : (x : Slot) → Spoiled ≡ listing_of x Other
-      none Absent = refl
-      none (Held n) = refl
-      none Other = refl
-      none Spoiled = refl
-
-  pub ids_spoiled : y ≡ Spoiled → Spoiled ≡ listing_of x y
-  unfolding listing_of
-  ids_spoiled f = rw f (none x)
-    where
-      none : (x : Slot) → Spoiled ≡ listing_of x Spoiled
-      none Absent = refl
-      none (Held n) = refl
-      none Other = refl
-      none Spoiled = refl
+      spoiled : (x y : Slot) → ((p : ℕ) → y ≡ Held p → ⊥) → Spoiled ≡ listing_of x y
+      spoiled x (Held p) n = absurd (n p refl)
+      spoiled Absent y n = unfold listing_of in refl
+      spoiled Spoiled y n = unfold listing_of in refl
+      spoiled (Held m) Absent n = unfold listing_of in refl
+      spoiled (Held m) Other n = unfold listing_of in refl
+      spoiled (Held m) Spoiled n = unfold listing_of in refl
+      spoiled Other Absent n = unfold listing_of in refl
+      spoiled Other Other n = unfold listing_of in refl
+      spoiled Other Spoiled n = unfold listing_of in refl
 
   -- ---- the objects so far, and one more
 
@@ -128,20 +143,22 @@ module _ (x y : Slot) where
     unfolding earlier
     earlier_kept f = rw (e, f)
 
-    pub earlier_absent : y ≡ Absent → Spoiled ≡ earlier x y
-    unfolding earlier
-    earlier_absent f = rw (e, f)
+    pub earlier_not : ((q : ℕ) → y ≡ Held q → ⊥) → (y ≡ Other → ⊥) → Spoiled ≡ earlier x y
+    earlier_not n o = rw e (spoiled y n o)
+      where
+        spoiled : (y : Slot) → ((q : ℕ) → y ≡ Held q → ⊥) → (y ≡ Other → ⊥) → Spoiled ≡ earlier (Held p) y
+        spoiled Absent n o = unfold earlier in refl
+        spoiled (Held q) n o = absurd (n q refl)
+        spoiled Other n o = absurd (o refl)
+        spoiled Spoiled n o = unfold earlier in refl
 
-    pub earlier_spoiled : y ≡ Spoiled → Spoiled ≡ earlier x y
-    unfolding earlier
-    earlier_spoiled f = rw (e, f)
+  pub earlier_none : (x ≡ Other → ⊥) → ((p : ℕ) → x ≡ Held p → ⊥) → Spoiled ≡ earlier x y
+  earlier_none o n = spoiled x o n
+    where
+      spoiled : (x : Slot) → (x ≡ Other → ⊥) → ((p : ℕ) → x ≡ Held p → ⊥) → Spoiled ≡ earlier x y
+      spoiled Absent o n = unfold earlier in refl
+      spoiled (Held p) o n = absurd (n p refl)
+      spoiled Other o n = absurd (o refl)
+      spoiled Spoiled o n = unfold earlier in refl
 
-  pub earlier_none : x ≡ Absent → Spoiled ≡ earlier x y
-  unfolding earlier
-  earlier_none e = rw e
-
-  pub earlier_bad : x ≡ Spoiled → Spoiled ≡ earlier x y
-  unfolding earlier
-  earlier_bad e = rw e
-
-pub ruleset slot_laws = (fill_absent, fill_held, fill_other, fill_spoiled, other_major, other_minor, wanted_version, minor_absent, minor_other, minor_spoiled, major_absent, major_other, major_spoiled, listing_wanted, listing_other, version_absent, version_spoiled, ids_absent, ids_other, ids_spoiled, earlier_other, earlier_held, earlier_kept, earlier_absent, earlier_spoiled, earlier_none, earlier_bad)
+pub ruleset slot_laws = (first_none, second_none, first_some, second_some, fill_absent, fill_not, other_major, other_minor, wanted_version, no_minor, no_major, items_other, items_not, listing_wanted, listing_other, no_version, no_ids_held, earlier_other, earlier_held, earlier_kept, earlier_not, earlier_none)

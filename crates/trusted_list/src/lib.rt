@@ -3,18 +3,24 @@
 // that is open around a value leaves it one level less, down to 12 for a number of `version` and a string of `ids`.
 #![tactic(auto)]
 
-ghost use Rattle.std.specs.Prelude.{◌≡◌, List, [], ◌∷◌, ℕ};
+ghost use Rattle.std.proofs.Common.{rules};
+ghost use Rattle.std.specs.Prelude.{◌≡◌, ◌≤◌, List, [], ◌∷◌, ℕ, ◌-◌};
 ghost use Rattle.ascii.specs.Ascii.{Bytes, text};
-ghost use Rattle.json_text.specs.Reader.{Reader};
-ghost use Rattle.json_text.specs.code.Places.{read_at, place_of};
-ghost use Rattle.json_values.specs.Json.{Json, listed, read_member, read_value};
+ghost use Rattle.json_text.specs.code.Places.{read_at};
+ghost use Rattle.json_values.specs.Json.{Json, listed, read_value};
+ghost use Rattle.json_values.specs.code.Folds.{reading, Relates};
 ghost use Rattle.trusted_list.specs.code.Entries.{first_entry, next_entry};
-ghost use Rattle.trusted_list.specs.code.Slots.{Relates, Extends, Starts, Came, Name, Names, reading, member_name, fill, version_of, listing_of, earlier, NumberIs, VersionIs, IdsIs, ListingIs, ListIs, BodyIs, Strings, Listings, Answers};
+ghost use Rattle.trusted_list.specs.code.LevelFacts.{names_start, name_start, strings_start, listings_start, version_else, ids_else, listing_else, list_else, body_else};
+ghost use Rattle.trusted_list.specs.code.Levels.{Item, opening, closing, start, read_item, Closes, ElseSpoiled};
+ghost use Rattle.trusted_list.specs.code.Slots.{Extends, Came, Name, Names, fill, first_filled, second_filled, version_of, ids_of, listing_of, earlier, NumberIs, VersionIs, IdsIs, ListingIs, ListIs, BodyIs, Strings, Listings, Answers};
+ghost use Rattle.trusted_list.specs.declared.Kind.TheVariants.{Array, Object};
 
 use refusals::Refusal;
 
 // What the pass holds of a value that must have a shape: it did not come; it came and is good, with a number or a
 // place; it came and is good, but not what is wanted; it came misshapen, or more than once.
+// No Option or Result, which tell two apart: the level above judges each of the four in its own way. `fill` takes a value
+// only after Absent, `earlier` only after Other, `listing_slot` tells Held from Other, and Spoiled spoils all.
 #[derive(Clone, Copy)]
 pub enum Slot {
     Absent,
@@ -43,23 +49,27 @@ fn fill(x: Slot, y: Slot) -> Slot
 {
     match x {
         Slot::Absent => y,
-        Slot::Held(_) => Slot::Spoiled,
-        Slot::Other => Slot::Spoiled,
-        Slot::Spoiled => Slot::Spoiled,
+        _ => Slot::Spoiled, // a second one
     }
 }
 
-// The place of a member's value, behind its name and the colon.
-fn member_value(s: &[u8], from: usize) -> Option<usize>
-    ensures { result ≡ place_of (read_at member_name s.now from) }
+// What is held of two names, with a value of the first more, or of the second; none where the value is no JSON.
+fn fill_first(two: Two, read: Option<(usize, Slot)>) -> Option<(usize, Two)>
+    ensures { result ≡ first_filled two read }
 {
-    let i = json_text::strings::skip_string(s, from)?;
-    let j = json_text::skip_blanks(s, i);
-    if json_text::byte_at(s, j) != Some(b':') {
-        return None;
-    }
-    let k = json_text::skip_blanks(s, j + 1);
-    Some(k)
+    let (j, y) = read?;
+    let first = fill(two.first, y);
+    let second = two.second;
+    Some((j, Two { first, second }))
+}
+
+fn fill_second(two: Two, read: Option<(usize, Slot)>) -> Option<(usize, Two)>
+    ensures { result ≡ second_filled two read }
+{
+    let (j, y) = read?;
+    let first = two.first;
+    let second = fill(two.second, y);
+    Some((j, Two { first, second }))
 }
 
 // A number of `version`: written as digits only, at most 65535.
@@ -75,163 +85,197 @@ fn read_number(s: &[u8], from: usize) -> Option<(usize, Slot)>
 
 // ---- what stands between two brackets
 
-// One level of the body: how an element between its brackets is read, and what is held of those before it.
+// An array or an object.
+#[derive(Clone, Copy)]
+pub enum Kind {
+    Array,
+    Object,
+}
+
+// The opening bracket.
+#[tactic(auto, unfolding(crate::specs::code::Levels::opening))]
+fn opening(kind: Kind) -> u8
+    ensures { result ≡ opening kind }
+{
+    match kind {
+        Kind::Array => b'[',
+        Kind::Object => b'{',
+    }
+}
+
+// The closing bracket.
+#[tactic(auto, unfolding(crate::specs::code::Levels::closing))]
+fn closing(kind: Kind) -> u8
+    ensures { result ≡ closing kind }
+{
+    match kind {
+        Kind::Array => b']',
+        Kind::Object => b'}',
+    }
+}
+
+// What is held before the first element: nothing in an array is wrong, no name of an object has come.
+#[tactic(auto, unfolding(crate::specs::code::Levels::start))]
+fn start(kind: Kind) -> Two
+    ensures { result ≡ start kind }
+{
+    let first = match kind {
+        Kind::Array => Slot::Other,
+        Kind::Object => Slot::Absent,
+    };
+    let second = Slot::Absent;
+    Two { first, second }
+}
+
+// One level of the body, an array or an object of some shape: how an element between its brackets is read, and what is
+// found of the whole value by those that are held.
 trait Level {
+    ghost use Rattle.trusted_list.specs.declared.Kind.{Kind};
+    ghost use Rattle.trusted_list.specs.declared.Slot.{Slot};
     ghost use Rattle.trusted_list.specs.declared.Two.{Two};
 
-    ghost Element: { Type 0 };
+    ghost KIND: { Kind };
 
-    ghost CLOSE: { ℕ };
+    ghost LEFT: { ℕ };
 
-    ghost reader: { Reader Element };
+    // How what is held stands to the elements.
+    ghost holds: { Self → Bytes → List (Item KIND) → Two → Type 0 };
 
-    ghost holds: { Self → Bytes → List Element → Two → Type 0 };
+    // How what is found stands to the value.
+    ghost finds: { Self → Bytes → Json → Slot → Type 0 };
 
-    // The closing bracket.
-    const CLOSE: u8;
+    const KIND: Kind;
 
-    // What is held before the first element.
-    fn start(&self) -> Two
-        ensures { Starts (holds self.now) result };
+    // How many arrays and objects may be open together in the value, itself among them.
+    const LEFT: usize;
 
     // The place behind the element at a place, and what is held of it and those before it.
     fn item(&self, s: &[u8], at: usize, two: Two) -> Option<(usize, Two)>
-        ensures { Relates (Extends (holds self.now s.now) two) (read_at reader s.now at) (reading result) };
+        ensures { Relates (Extends (holds self.now s.now) two) (read_at (read_item KIND (LEFT - 1)) s.now at) (reading result) };
+
+    // What is found of the value at a place, by what is held of all its elements.
+    fn slot(&self, from: usize, two: Two) -> Slot
+        ensures { Closes KIND LEFT from (holds self.now) two (finds self.now) result };
+
+    ghost opens: { 1 ≤ LEFT };
+
+    ghost starts: { (l : Self) (s : Bytes) → holds l s [] (start KIND) };
+
+    ghost else_spoiled: { (l : Self) (s : Bytes) → ElseSpoiled KIND (finds l s) };
 }
 
-// What follows the opening bracket. The loop of json_values over a list is not this one: it stands in the recursion of skip_value, and holds nothing.
+// What follows the opening bracket: element after element, with what is held of those before it.
 fn walk<L: Level>(level: &L, s: &[u8], from: usize) -> Option<(usize, Two)>
-    ensures { Relates (L.holds level.now s.now) (read_at (listed L.reader (L.CLOSE ∷ [])) s.now from) (reading result) }
+    ensures { Relates (L.holds level.now s.now) (read_at (listed (read_item L.KIND (L.LEFT - 1)) (closing L.KIND ∷ [])) s.now from) (reading result) }
 {
-    let first = json_text::skip_blanks(s, from);
-    let mut two = level.start();
-    if json_text::byte_at(s, first) == Some(L::CLOSE) {
-        return Some((first + 1, two));
+    let kind = L::KIND;
+    json_values::fold_listed(
+        s,
+        from,
+        closing(kind),
+        start(kind),
+        |at: usize, two: Two| -> Option<(usize, Two)>
+            ensures { Relates (Extends (L.holds level.entry.now s.entry.now) two) (read_at (read_item L.KIND (L.LEFT - 1)) s.entry.now at) (reading result) }
+        { level.item(s, at, two) },
+    )
+}
+
+// The value at a place: one of the level's kind by its elements; any other is skipped, and has not the shape.
+fn read_level<L: Level>(level: &L, s: &[u8], from: usize) -> Option<(usize, Slot)>
+    ensures { Relates (L.finds level.now s.now) (read_at (read_value L.LEFT) s.now from) (reading result) }
+{
+    if json_text::byte_at(s, from) == Some(opening(L::KIND)) {
+        let (j, two) = walk(level, s, from + 1)?;
+        let x = level.slot(from, two);
+        return Some((j, x));
     }
-    let mut at = first;
-    // element after element, each of which says where it ends
-    loop {
-        let (j, next) = level.item(s, at, two)?;
-        let k = json_text::skip_blanks(s, j);
-        let b = json_text::byte_at(s, k);
-        if b == Some(L::CLOSE) {
-            return Some((k + 1, next));
-        }
-        if b != Some(b',') {
-            return None;
-        }
-        two = next;
-        at = json_text::skip_blanks(s, k + 1);
-    }
+    let j = json_values::skip_value(s, from, L::LEFT)?;
+    Some((j, Slot::Spoiled))
 }
 
 // ---- `version`
 
-// The members of a version.
+// An object with `major` and `minor` once each, by its members.
 #[derive(Drop)]
-struct VersionMembers;
+struct VersionMembers {
+    wanted: Version,
+}
 
 impl Level for VersionMembers {
-    ghost Element = { Bytes × Json };
+    ghost KIND = { Object };
 
-    ghost CLOSE = { 125 };
-
-    ghost reader = { read_member (read_value 12) };
+    ghost LEFT = { 13 };
 
     ghost holds = { λ l s. Names (text "major") (text "minor") NumberIs NumberIs };
 
-    const CLOSE: u8 = b'}';
+    ghost finds = { λ l s. Came (VersionIs l.wanted.major l.wanted.minor) };
 
-    fn start(&self) -> Two {
-        Two {
-            first: Slot::Absent,
-            second: Slot::Absent,
-        }
-    }
+    const KIND: Kind = Kind::Object;
 
+    const LEFT: usize = 13;
+
+    // Written out for each object: one function for two names takes eight arguments, two of them closures, and its call
+    // is ten lines in the place of these eight.
     fn item(&self, s: &[u8], at: usize, two: Two) -> Option<(usize, Two)> {
-        let k = member_value(s, at)?;
-        let first = two.first;
-        let second = two.second;
+        let k = json_values::skip_name(s, at)?;
         if json_text::decoding::is_name(s, at, b"major") {
-            let (j, y) = read_number(s, k)?;
-            let first = fill(first, y);
-            return Some((j, Two { first, second }));
+            return fill_first(two, read_number(s, k));
         }
         if json_text::decoding::is_name(s, at, b"minor") {
-            let (j, y) = read_number(s, k)?;
-            let second = fill(second, y);
-            return Some((j, Two { first, second }));
+            return fill_second(two, read_number(s, k));
         }
         let j = json_values::skip_value(s, k, 12)?;
         Some((j, two))
     }
+
+    fn slot(&self, from: usize, two: Two) -> Slot {
+        version_slot(two, self.wanted)
+    }
+
+    ghost opens = { Prim.search rules };
+
+    ghost starts = { λ l s. names_start _ _ _ _ };
+
+    ghost else_spoiled = { λ l s. version_else l.wanted.major l.wanted.minor };
 }
 
 // The version by its two numbers: Held where it is the wanted one.
 fn version_slot(two: Two, wanted: Version) -> Slot
     ensures { result ≡ version_of wanted.major wanted.minor two.first two.second }
 {
-    let x = two.first;
-    let y = two.second;
-    match x {
-        Slot::Held(m) => match y {
-            Slot::Held(n) => {
-                if m != wanted.major as usize {
-                    return Slot::Other;
-                }
-                if n != wanted.minor as usize {
-                    return Slot::Other;
-                }
-                Slot::Held(0)
-            }
-            Slot::Absent => Slot::Spoiled,
-            Slot::Other => Slot::Spoiled,
-            Slot::Spoiled => Slot::Spoiled,
-        },
-        Slot::Absent => Slot::Spoiled,
-        Slot::Other => Slot::Spoiled,
-        Slot::Spoiled => Slot::Spoiled,
+    let Slot::Held(m) = two.first else {
+        return Slot::Spoiled;
+    };
+    let Slot::Held(n) = two.second else {
+        return Slot::Spoiled;
+    };
+    if m != wanted.major as usize {
+        return Slot::Other;
     }
-}
-
-// An object with `major` and `minor` once each.
-// The five readers stay five: each looks for the opening bracket of another level, and makes another slot of what the walk holds.
-fn read_version(s: &[u8], from: usize, wanted: Version) -> Option<(usize, Slot)>
-    ensures { Relates (Came (VersionIs wanted.major wanted.minor)) (read_at (read_value 13) s.now from) (reading result) }
-{
-    if json_text::byte_at(s, from) == Some(b'{') {
-        let (j, two) = walk(&VersionMembers, s, from + 1)?;
-        let x = version_slot(two, wanted);
-        return Some((j, x));
+    if n != wanted.minor as usize {
+        return Slot::Other;
     }
-    let j = json_values::skip_value(s, from, 13)?;
-    Some((j, Slot::Spoiled))
+    Slot::Held(0)
 }
 
 // ---- `ids`
 
-// The ids.
+// An array of strings, by its items; held by its place.
 #[derive(Drop)]
 struct IdsItems;
 
 impl Level for IdsItems {
-    ghost Element = { Json };
+    ghost KIND = { Array };
 
-    ghost CLOSE = { 93 };
-
-    ghost reader = { read_value 12 };
+    ghost LEFT = { 13 };
 
     ghost holds = { λ l s. Strings };
 
-    const CLOSE: u8 = b']';
+    ghost finds = { λ l s. Came (IdsIs s) };
 
-    fn start(&self) -> Two {
-        Two {
-            first: Slot::Other,
-            second: Slot::Absent,
-        }
-    }
+    const KIND: Kind = Kind::Array;
+
+    const LEFT: usize = 13;
 
     fn item(&self, s: &[u8], at: usize, two: Two) -> Option<(usize, Two)> {
         let Some(j) = json_text::strings::skip_ascii_string(s, at) else {
@@ -239,6 +283,16 @@ impl Level for IdsItems {
         };
         Some((j, two))
     }
+
+    fn slot(&self, from: usize, two: Two) -> Slot {
+        ids_slot(two.first, from)
+    }
+
+    ghost opens = { Prim.search rules };
+
+    ghost starts = { λ l s. strings_start };
+
+    ghost else_spoiled = { λ l s. ids_else s };
 }
 
 // Any value.
@@ -250,108 +304,78 @@ fn ids_value(s: &[u8], at: usize, two: Two) -> Option<(usize, Two)>
     if b == Some(b'"') {
         return Some((j, two));
     }
-    Some((
-        j,
-        Two {
-            first: Slot::Spoiled,
-            second: Slot::Absent,
-        },
-    ))
+    let first = Slot::Spoiled;
+    let second = two.second;
+    Some((j, Two { first, second }))
 }
 
-// An array of strings, held by its place.
-fn read_ids(s: &[u8], from: usize) -> Option<(usize, Slot)>
-    ensures { Relates (Came (IdsIs s.now)) (read_at (read_value 13) s.now from) (reading result) }
+// The ids by their items: held by the place of their array, where all are strings.
+fn ids_slot(x: Slot, from: usize) -> Slot
+    ensures { result ≡ ids_of from x }
 {
-    if json_text::byte_at(s, from) == Some(b'[') {
-        let (j, two) = walk(&IdsItems, s, from + 1)?;
-        let x = two.first;
-        return match x {
-            Slot::Other => Some((j, Slot::Held(from))),
-            Slot::Absent => Some((j, Slot::Spoiled)),
-            Slot::Held(_) => Some((j, Slot::Spoiled)),
-            Slot::Spoiled => Some((j, Slot::Spoiled)),
-        };
+    match x {
+        Slot::Other => Slot::Held(from),
+        _ => Slot::Spoiled,
     }
-    let j = json_values::skip_value(s, from, 13)?;
-    Some((j, Slot::Spoiled))
 }
 
 // ---- an object of the list
 
-// The members of an object of the list.
+// An object with `version` once and `ids` once, by its members.
 #[derive(Drop)]
 struct ListingMembers {
     wanted: Version,
 }
 
 impl Level for ListingMembers {
-    ghost Element = { Bytes × Json };
+    ghost KIND = { Object };
 
-    ghost CLOSE = { 125 };
-
-    ghost reader = { read_member (read_value 13) };
+    ghost LEFT = { 14 };
 
     ghost holds = { λ l s. Names (text "version") (text "ids") (VersionIs l.wanted.major l.wanted.minor) (IdsIs s) };
 
-    const CLOSE: u8 = b'}';
+    ghost finds = { λ l s. ListingIs s l.wanted.major l.wanted.minor };
 
-    fn start(&self) -> Two {
-        Two {
-            first: Slot::Absent,
-            second: Slot::Absent,
-        }
-    }
+    const KIND: Kind = Kind::Object;
+
+    const LEFT: usize = 14;
 
     fn item(&self, s: &[u8], at: usize, two: Two) -> Option<(usize, Two)> {
-        let k = member_value(s, at)?;
-        let first = two.first;
-        let second = two.second;
+        let wanted = self.wanted;
+        let k = json_values::skip_name(s, at)?;
         if json_text::decoding::is_name(s, at, b"version") {
-            let (j, y) = read_version(s, k, self.wanted)?;
-            let first = fill(first, y);
-            return Some((j, Two { first, second }));
+            return fill_first(two, read_level(&VersionMembers { wanted }, s, k));
         }
         if json_text::decoding::is_name(s, at, b"ids") {
-            let (j, y) = read_ids(s, k)?;
-            let second = fill(second, y);
-            return Some((j, Two { first, second }));
+            return fill_second(two, read_level(&IdsItems, s, k));
         }
         let j = json_values::skip_value(s, k, 13)?;
         Some((j, two))
     }
+
+    fn slot(&self, from: usize, two: Two) -> Slot {
+        listing_slot(two)
+    }
+
+    ghost opens = { Prim.search rules };
+
+    ghost starts = { λ l s. names_start _ _ _ _ };
+
+    ghost else_spoiled = { λ l s. listing_else s l.wanted.major l.wanted.minor };
 }
 
 // The object by its two members: the place of its ids where its version is the wanted one.
 fn listing_slot(two: Two) -> Slot
     ensures { result ≡ listing_of two.first two.second }
 {
-    let x = two.first;
-    let y = two.second;
-    match y {
-        Slot::Held(p) => match x {
-            Slot::Held(_) => Slot::Held(p),
-            Slot::Other => Slot::Other,
-            Slot::Absent => Slot::Spoiled,
-            Slot::Spoiled => Slot::Spoiled,
-        },
-        Slot::Absent => Slot::Spoiled,
-        Slot::Other => Slot::Spoiled,
-        Slot::Spoiled => Slot::Spoiled,
+    let Slot::Held(p) = two.second else {
+        return Slot::Spoiled;
+    };
+    match two.first {
+        Slot::Held(_) => Slot::Held(p),
+        Slot::Other => Slot::Other,
+        _ => Slot::Spoiled,
     }
-}
-
-// An object with `version` once and `ids` once.
-fn read_listing(s: &[u8], from: usize, wanted: Version) -> Option<(usize, Slot)>
-    ensures { Relates (ListingIs s.now wanted.major wanted.minor) (read_at (read_value 14) s.now from) (reading result) }
-{
-    if json_text::byte_at(s, from) == Some(b'{') {
-        let (j, two) = walk(&ListingMembers { wanted }, s, from + 1)?;
-        let x = listing_slot(two);
-        return Some((j, x));
-    }
-    let j = json_values::skip_value(s, from, 14)?;
-    Some((j, Slot::Spoiled))
 }
 
 // ---- the list
@@ -365,116 +389,91 @@ fn earlier(x: Slot, y: Slot) -> Slot
         Slot::Held(p) => match y {
             Slot::Held(_) => Slot::Held(p),
             Slot::Other => Slot::Held(p),
-            Slot::Absent => Slot::Spoiled,
-            Slot::Spoiled => Slot::Spoiled,
+            _ => Slot::Spoiled,
         },
-        Slot::Absent => Slot::Spoiled,
-        Slot::Spoiled => Slot::Spoiled,
+        _ => Slot::Spoiled,
     }
 }
 
-// The objects of the list.
+// An array of such objects, by its items.
 #[derive(Drop)]
 struct ListItems {
     wanted: Version,
 }
 
 impl Level for ListItems {
-    ghost Element = { Json };
+    ghost KIND = { Array };
 
-    ghost CLOSE = { 93 };
-
-    ghost reader = { read_value 14 };
+    ghost LEFT = { 15 };
 
     ghost holds = { λ l s. Listings s l.wanted.major l.wanted.minor };
 
-    const CLOSE: u8 = b']';
+    ghost finds = { λ l s. Came (ListIs s l.wanted.major l.wanted.minor) };
 
-    fn start(&self) -> Two {
-        Two {
-            first: Slot::Other,
-            second: Slot::Absent,
-        }
-    }
+    const KIND: Kind = Kind::Array;
+
+    const LEFT: usize = 15;
 
     fn item(&self, s: &[u8], at: usize, two: Two) -> Option<(usize, Two)> {
-        let (j, y) = read_listing(s, at, self.wanted)?;
+        let wanted = self.wanted;
+        let (j, y) = read_level(&ListingMembers { wanted }, s, at)?;
         let x = two.first;
         let first = earlier(x, y);
-        Some((
-            j,
-            Two {
-                first,
-                second: Slot::Absent,
-            },
-        ))
+        let second = two.second;
+        Some((j, Two { first, second }))
     }
-}
 
-// An array of such objects.
-fn read_list(s: &[u8], from: usize, wanted: Version) -> Option<(usize, Slot)>
-    ensures { Relates (Came (ListIs s.now wanted.major wanted.minor)) (read_at (read_value 15) s.now from) (reading result) }
-{
-    if json_text::byte_at(s, from) == Some(b'[') {
-        let (j, two) = walk(&ListItems { wanted }, s, from + 1)?;
-        let x = two.first;
-        return Some((j, x));
+    fn slot(&self, from: usize, two: Two) -> Slot {
+        two.first
     }
-    let j = json_values::skip_value(s, from, 15)?;
-    Some((j, Slot::Spoiled))
+
+    ghost opens = { Prim.search rules };
+
+    ghost starts = { λ l s. listings_start s l.wanted.major l.wanted.minor };
+
+    ghost else_spoiled = { λ l s. list_else s l.wanted.major l.wanted.minor };
 }
 
 // ---- the body
 
-// The members of the body.
+// An object with `trustedFacets` once, by its members.
 #[derive(Drop)]
 struct BodyMembers {
     wanted: Version,
 }
 
 impl Level for BodyMembers {
-    ghost Element = { Bytes × Json };
+    ghost KIND = { Object };
 
-    ghost CLOSE = { 125 };
-
-    ghost reader = { read_member (read_value 15) };
+    ghost LEFT = { 16 };
 
     ghost holds = { λ l s. Name (text "trustedFacets") (ListIs s l.wanted.major l.wanted.minor) };
 
-    const CLOSE: u8 = b'}';
+    ghost finds = { λ l s. BodyIs s l.wanted.major l.wanted.minor };
 
-    fn start(&self) -> Two {
-        Two {
-            first: Slot::Absent,
-            second: Slot::Absent,
-        }
-    }
+    const KIND: Kind = Kind::Object;
+
+    const LEFT: usize = 16;
 
     fn item(&self, s: &[u8], at: usize, two: Two) -> Option<(usize, Two)> {
-        let k = member_value(s, at)?;
-        let first = two.first;
-        let second = two.second;
+        let wanted = self.wanted;
+        let k = json_values::skip_name(s, at)?;
         if json_text::decoding::is_name(s, at, b"trustedFacets") {
-            let (j, y) = read_list(s, k, self.wanted)?;
-            let first = fill(first, y);
-            return Some((j, Two { first, second }));
+            return fill_first(two, read_level(&ListItems { wanted }, s, k));
         }
         let j = json_values::skip_value(s, k, 15)?;
         Some((j, two))
     }
-}
 
-// An object with `trustedFacets` once.
-fn read_body(s: &[u8], from: usize, wanted: Version) -> Option<(usize, Slot)>
-    ensures { Relates (BodyIs s.now wanted.major wanted.minor) (read_at (read_value 16) s.now from) (reading result) }
-{
-    if json_text::byte_at(s, from) == Some(b'{') {
-        let (j, two) = walk(&BodyMembers { wanted }, s, from + 1)?;
-        let x = two.first;
-        return Some((j, x));
+    fn slot(&self, from: usize, two: Two) -> Slot {
+        two.first
     }
-    let j = json_values::skip_value(s, from, 16)?;
-    Some((j, Slot::Spoiled))
+
+    ghost opens = { Prim.search rules };
+
+    ghost starts = { λ l s. name_start _ _ };
+
+    ghost else_spoiled = { λ l s. body_else s l.wanted.major l.wanted.minor };
 }
 
 // The refusal of a body for the wanted version, 9 (over 65,536 bytes) to 12; or the place of the selected ids.
@@ -485,7 +484,7 @@ pub fn select(body: &[u8], wanted: Version) -> Result<usize, Refusal>
         return Err(Refusal::LongList);
     }
     let i = json_text::skip_blanks(body, 0);
-    let Some((j, x)) = read_body(body, i, wanted) else {
+    let Some((j, x)) = read_level(&BodyMembers { wanted }, body, i) else {
         return Err(Refusal::Unreadable);
     };
     let k = json_text::skip_blanks(body, j);

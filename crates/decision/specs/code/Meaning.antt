@@ -1,6 +1,8 @@
 -- What the answers of the code mean, in the terms of Answer, Decide and Location.
-use Rattle.std.specs.Prelude.{◌≡◌, [], ℕ, ◌+◌, ◌≤◌, ◌<◌, length, Result, Ok, Err}
+use Rattle.std.specs.Prelude.{◌≡◌, [], ℕ, ◌+◌, ◌≤◌, ◌<◌, length, Option, None, Some, Result, Ok, Err}
 use Rattle.ascii.specs.Ascii.{Bytes}
+use Rattle.ascii.specs.declared.Span.{Span}
+use Rattle.refusals.specs.declared.Refusal.{Refusal}
 use Rattle.origin.specs.code.Parts.{part}
 use Rattle.fetch_record.specs.declared.item.Redirect.{Redirect}
 use Rattle.decision.specs.Answer.{Answer, rule1, rule2, rule3, rule4, fetch, refused}
@@ -10,7 +12,7 @@ use Rattle.decision.specs.declared.Due.{Due}
 use Rattle.decision.specs.declared.Answer.{Answer as Given}
 use Rattle.decision.specs.declared.Answer.TheVariants.{Rule1, Rule2, Rule3, Rule4, Fetch, Refused}
 use Rattle.decision.specs.declared.Location.{Location}
-use Rattle.decision.specs.declared.Location.TheVariants.{Nothing, AppId, Text}
+use Rattle.decision.specs.declared.Location.TheVariants.{AppId, Text}
 
 -- ---- answers
 
@@ -26,6 +28,11 @@ unfoldable pub stage_of : Result Due Given → Stage
 stage_of (Err a) = settled (answer_of a)
 stage_of (Ok d) = list_due d.response
 
+-- rule 4 by the place of an entry, or a refusal
+unfoldable pub listed_of : Result ℕ Refusal → Answer
+listed_of (Ok n) = rule4 n
+listed_of (Err x) = refused x
+
 -- the list is due of this AppID
 pub data Asks (appid : Bytes) : Result Due Given → Type 0 where
   settled_so : {a : Given} → Asks appid (Err a)
@@ -37,24 +44,24 @@ pub record Before (caller appid items lent : Bytes) (r : Result Due Given) : Typ
 
 -- ---- the fetch location
 
--- its part of the AppID or of the text
-unfoldable pub location_of : Bytes → Bytes → Location → Bytes
-location_of appid lent Nothing = []
-location_of appid lent AppId = appid
-location_of appid lent (Text a b) = part lent a b
+-- its part of the AppID or of the text, empty for none
+unfoldable pub location_of : Bytes → Bytes → Option Location → Bytes
+location_of appid lent None = []
+location_of appid lent (Some AppId) = appid
+location_of appid lent (Some (Text t)) = part lent t.from t.to
 
-pub data Inside (lent : Bytes) : Location → Type 0 where
-  no_place : Inside lent Nothing
-  app_place : Inside lent AppId
-  text_place : {a b : ℕ} → a ≤ b → b ≤ length lent → Inside lent (Text a b)
+pub data Inside (lent : Bytes) : Option Location → Type 0 where
+  no_place : Inside lent None
+  app_place : Inside lent (Some AppId)
+  text_place : {t : Span} → t.from ≤ t.to → t.to ≤ length lent → Inside lent (Some (Text t))
 
 -- its places are those of the source
-pub data Stands : Source → Location → Type 0 where
-  at_nowhere : Stands nowhere Nothing
-  at_app : Stands the_app_id AppId
-  at_hop : {h : Redirect} {a b : ℕ} → a ≡ h.start → b ≡ h.start + h.size → a < 65536 → b < 131072 → Stands (redirect h) (Text a b)
+pub data Stands : Source → Option Location → Type 0 where
+  at_nowhere : Stands nowhere None
+  at_app : Stands the_app_id (Some AppId)
+  at_hop : {h : Redirect} {t : Span} → t.from ≡ h.start → t.to ≡ h.start + h.size → t.from < 65536 → t.to < 131072 → Stands (redirect h) (Some (Text t))
 
-pub record Locates (appid lent : Bytes) (s : Bytes) (source : Source) (r : Location) : Type 0 where
+pub record Locates (appid lent : Bytes) (s : Bytes) (source : Source) (r : Option Location) : Type 0 where
   pub is : location_of appid lent r ≡ s
   pub inside : Inside lent r
   pub stands : Stands source r

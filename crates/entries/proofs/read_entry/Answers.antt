@@ -4,8 +4,8 @@ use Rattle.entries.proofs.read_entry.Goals as goal
 pub returns-in_default : goal.returns-in_default
 returns-in_default c = search read_stuck
 
-pub returns-then-n-gt512 : goal.returns-then-n-gt512
-returns-then-n-gt512 c = search read_long
+pub returns-in_default-held : goal.returns-in_default-held
+returns-in_default-held c = search read_long
 
 pub returns : goal.returns
 returns c = search read_last

@@ -1,5 +1,5 @@
 -- What the code holds of the AppID, and what it answers of an entry's bytes.
-use Rattle.std.specs.Prelude.{◌≡◌, Bool, true, false, not, Option, None, Some, is_some, Result, Ok, Err}
+use Rattle.std.specs.Prelude.{◌≡◌, ℕ, Bool, true, false, not, Option, None, Some, is_some, Result, Ok, Err}
 use Rattle.ascii.specs.Ascii.{Bytes, is_none}
 use Rattle.hosts.specs.Host.{is_host}
 use Rattle.suffix.specs.Suffix.{read_table, private_label, or_empty}
@@ -10,6 +10,7 @@ use Rattle.origin.specs.Origin.{begins_https}
 use Rattle.origin.specs.code.Parts.{part}
 use Rattle.entries.specs.AppId.{is_bad_app_id, app_label}
 use Rattle.entries.specs.Causes.{labels_agree, cause}
+use Rattle.entries.specs.code.HostEnds.{HostEnds}
 use Rattle.refusals.specs.declared.Refusal.{Refusal}
 use Rattle.refusals.specs.declared.Refusal.TheVariants.{BadAppId}
 use Rattle.entries.specs.declared.Cause.{Cause}
@@ -34,14 +35,14 @@ pub record Owns (appid table label : Bytes) (deeper : Option Deeper) : Type 0 wh
   pub deeper_is : is_some deeper ≡ deeper_than table (app_label table appid)
   pub held : {d : Deeper} → deeper ≡ Some d → Home table label d
 
--- the same, where the label stands in the AppID between two places
+-- the same, where the label stands at this place of the AppID
 pub record Owned (appid table : Bytes) (o : Owner) : Type 0 where
-  pub is : Owns appid table (part appid o.start o.end) o.deeper
+  pub is : Owns appid table (part appid o.label.from o.label.to) o.deeper
 
--- refusal 13; or the AppID's owner
-pub data OwnedBy (appid table : Bytes) : Option Owner → Type 0 where
-  bad_table : read_table table ≡ None → OwnedBy appid table None
-  owned : {o : Owner} → is_none (read_table table) ≡ false → Owned appid table o → OwnedBy appid table (Some o)
+-- refusal 13; or the AppID's owner, where its host ends at this place
+pub data OwnedBy (appid : Bytes) (end : ℕ) (table : Bytes) : Option Owner → Type 0 where
+  bad_table : read_table table ≡ None → OwnedBy appid end table None
+  owned : {o : Owner} → is_none (read_table table) ≡ false → (HostEnds appid end → Owned appid table o) → OwnedBy appid end table (Some o)
 
 -- ---- answers that hold for every AppID with this label
 

@@ -6,7 +6,7 @@ use Rattle.fetch_record.specs.Record.{Fetched, number, in_text, last_location, r
 use Rattle.fetch_record.specs.declared.item.Redirect.{Redirect}
 use Rattle.fetch_record.specs.declared.item.Answer.{Answer}
 use Rattle.fetch_record.specs.declared.Layout.{Layout}
-use Rattle.fetch_record.specs.declared.Target.{Target}
+use Rattle.ascii.specs.declared.Span.{Span}
 
 -- the fields of a body of kind 1, well formed or not
 unfoldable pub redirect_in : Bytes → Redirect
@@ -76,21 +76,21 @@ hops_read (Err r) = Some r
 unfoldable pub target : Bytes → Bytes → Option Bytes
 target items lent = read_record items lent >>= λ f. last_location lent f.redirects
 
-unfoldable pub part_in : Bytes → Option Target → Option Bytes
+unfoldable pub part_in : Bytes → Option Span → Option Bytes
 part_in lent None = None
 part_in lent (Some t) = Some (take (t.to - t.from) (drop t.from lent))
 
 -- both places are inside the text
-pub data TargetPlaced (lent : Bytes) : Option Target → Type 0 where
+pub data TargetPlaced (lent : Bytes) : Option Span → Type 0 where
   no_target : TargetPlaced lent None
-  target_in : {t : Target} → t.from ≤ t.to → t.to ≤ length lent → TargetPlaced lent (Some t)
+  target_in : {t : Span} → t.from ≤ t.to → t.to ≤ length lent → TargetPlaced lent (Some t)
 
 -- they are those of a redirect
-pub data TargetOf : Option Redirect → Option Target → Type 0 where
+pub data TargetOf : Option Redirect → Option Span → Type 0 where
   of_none : TargetOf None None
-  of_hop : {h : Redirect} {t : Target} → t.from ≡ h.start → t.to ≡ h.start + h.size → t.from < 65536 → t.to < 131072 → TargetOf (Some h) (Some t)
+  of_hop : {h : Redirect} {t : Span} → t.from ≡ h.start → t.to ≡ h.start + h.size → t.from < 65536 → t.to < 131072 → TargetOf (Some h) (Some t)
 
-pub record Targets (lent : Bytes) (o : Option Bytes) (l : Option Redirect) (r : Option Target) : Type 0 where
+pub record Targets (lent : Bytes) (o : Option Bytes) (l : Option Redirect) (r : Option Span) : Type 0 where
   pub is : part_in lent r ≡ o
   pub places : TargetPlaced lent r
   pub hop : TargetOf l r

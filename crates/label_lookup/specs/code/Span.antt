@@ -24,7 +24,7 @@ pub record Spans (table label : Bytes) (from to : ℕ) : Type 0 where
 pub record Held (table host label : Bytes) (d : Deeper) : Type 0 where
   pub label_is : private_label table host ≡ Some label
   pub found : best_of (labels host) (read_table table) ≡ Some d.sizes
-  pub spans : Spans table label d.from d.to
+  pub spans : Spans table label d.span.from d.span.to
 
 -- where the label begins, whether a rule goes deeper, and what is held then
 pub record OwnerFound (table host : Bytes) (o : Owner) : Type 0 where

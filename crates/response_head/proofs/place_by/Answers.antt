@@ -4,8 +4,8 @@ use Rattle.response_head.proofs.place_by.Goals as goal
 pub returns-in-Nowhere : goal.returns-in-Nowhere
 returns-in-Nowhere c = search field_laws
 
-pub returns-in-Between : goal.returns-in-Between
-returns-in-Between c = search field_laws
+pub returns-in-At : goal.returns-in-At
+returns-in-At c = search field_laws
 
 pub returns-in-Several : goal.returns-in-Several
 returns-in-Several c = search field_laws

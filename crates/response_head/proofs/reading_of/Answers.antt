@@ -7,8 +7,8 @@ returns-then-status-lt300 c = search head_laws
 pub returns-then-status-gt399 : goal.returns-then-status-gt399
 returns-then-status-gt399 c = search head_laws
 
-pub returns-in-Between : goal.returns-in-Between
-returns-in-Between c = search head_laws
+pub returns-in-At : goal.returns-in-At
+returns-in-At c = search head_laws
 
 pub returns-in-Nowhere : goal.returns-in-Nowhere
 returns-in-Nowhere c = search head_laws

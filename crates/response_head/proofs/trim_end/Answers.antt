@@ -1,11 +1,9 @@
-use Rattle.response_head.proofs.ByteLaws.{byte_laws}
+use Rattle.std.proofs.Common.{rules}
+use Rattle.response_head.proofs.ByteLaws.{trim_some, trim_none}
 use Rattle.response_head.proofs.trim_end.Goals as goal
 
-pub returns-then-not-is_blank : goal.returns-then-not-is_blank
-returns-then-not-is_blank c = search byte_laws
+pub returns-in-Some : goal.returns-in-Some
+returns-in-Some c = trim_some c.args.s.now c.args.from c.iter.ensures.rest c.requires (search rules) (search rules) (search rules)
 
-pub loop-last-preserved : goal.loop-last-preserved
-loop-last-preserved c = search byte_laws
-
-pub returns : goal.returns
-returns c = search byte_laws
+pub returns-in-None : goal.returns-in-None
+returns-in-None c = trim_none c.args.s.now c.args.from c.iter.ensures.rest c.requires (search rules)

@@ -1,10 +1,11 @@
 -- What the answers of the code mean, in the terms of ResponseHead.
 use Rattle.std.specs.Prelude.{◌≡◌, Bool, true, List, [], ◌∷◌, ◌++◌, ℕ, ◌-◌, ◌≤◌, length, take, drop, if◌then◌else◌, Option, None, Some, unwrap_or}
+use Rattle.ascii.specs.declared.Span.{Span}
 use Rattle.ascii.specs.Ascii.{Bytes, ◌>>=◌, all, same_no_case}
 use Rattle.response_head.specs.ResponseHead.{is_text_byte, Field, Head, redirect, answer, trim_end, values_of, read_field, head_of, is_true, is_list_type, authorized_name, type_name, location_name}
 use Rattle.response_head.specs.declared.FieldLine.{FieldLine}
 use Rattle.response_head.specs.declared.Place.{Place}
-use Rattle.response_head.specs.declared.Place.TheVariants.{Nowhere, Between, Several}
+use Rattle.response_head.specs.declared.Place.TheVariants.{Nowhere, At, Several}
 use Rattle.response_head.specs.declared.Seen.{Seen}
 use Rattle.response_head.specs.declared.Head.{Head as Reading}
 use Rattle.response_head.specs.declared.Head.TheVariants.{Redirect, Answer}
@@ -17,14 +18,14 @@ pub record Trims (s : Bytes) (from r : ℕ) : Type 0 where
   pub high : r ≤ length s
   pub is : take (r - from) (drop from s) ≡ trim_end (drop from s)
 
--- the name stands before the colon, the value between two places
+-- the name stands before the colon, the value at its place
 unfoldable pub field_in : Bytes → Option FieldLine → Option Field
 field_in l None = None
-field_in l (Some p) = Some (record { name = take p.colon l; value = take (p.to - p.from) (drop p.from l) })
+field_in l (Some p) = Some (record { name = take p.colon l; value = take (p.value.to - p.value.from) (drop p.value.from l) })
 
 pub data FieldPlaced (l : Bytes) : Option FieldLine → Type 0 where
   no_field : FieldPlaced l None
-  field : {p : FieldLine} → p.colon ≤ length l → p.from ≤ p.to → p.to ≤ length l → FieldPlaced l (Some p)
+  field : {p : FieldLine} → p.colon ≤ length l → p.value.from ≤ p.value.to → p.value.to ≤ length l → FieldPlaced l (Some p)
 
 pub record ReadsField (l : Bytes) (r : Option FieldLine) : Type 0 where
   pub is : field_in l r ≡ read_field l
@@ -40,23 +41,23 @@ first_of p (v ∷ vs) = Some (p v)
 unfoldable pub first_by : Option Bool → Bool → Option Bool
 first_by x q = Some (unwrap_or x q)
 
--- one Location stands between two places
+-- one Location stands at a place
 pub data PlaceIs (s : Bytes) : List Bytes → Place → Type 0 where
   nowhere : PlaceIs s [] Nowhere
-  one : {v : Bytes} {from to : ℕ} → from ≤ to → to ≤ length s → take (to - from) (drop from s) ≡ v → PlaceIs s (v ∷ []) (Between from to)
+  one : {v : Bytes} {p : Span} → p.from ≤ p.to → p.to ≤ length s → take (p.to - p.from) (drop p.from s) ≡ v → PlaceIs s (v ∷ []) (At p)
   several : {v w : Bytes} {vs : List Bytes} → PlaceIs s (v ∷ w ∷ vs) Several
 
-unfoldable pub place_by : Place → ℕ → ℕ → Place
-place_by Nowhere from to = Between from to
-place_by (Between a b) from to = Several
-place_by Several from to = Several
+unfoldable pub place_by : Place → Span → Place
+place_by Nowhere p = At p
+place_by (At q) p = Several
+place_by Several p = Several
 
 -- one field more
-unfoldable pub seen_with : Bytes → Bytes → ℕ → ℕ → Seen → Seen
-seen_with name value from to x =
+unfoldable pub seen_with : Bytes → Bytes → Span → Seen → Seen
+seen_with name value place x =
     if same_no_case name authorized_name then record { authorized = first_by x.authorized (is_true value); typed = x.typed; location = x.location } else
     if same_no_case name type_name then record { authorized = x.authorized; typed = first_by x.typed (is_list_type value); location = x.location } else
-    if same_no_case name location_name then record { authorized = x.authorized; typed = x.typed; location = place_by x.location from to } else
+    if same_no_case name location_name then record { authorized = x.authorized; typed = x.typed; location = place_by x.location place } else
     x
 
 -- what is seen of these fields
@@ -84,12 +85,12 @@ pub record Adds (s : Bytes) (at end : ℕ) (x : Seen) (r : Option Seen) : Type 0
 unfoldable pub head_in : Bytes → Option Reading → Option Head
 head_in s None = None
 head_in s (Some (Answer status type_seen)) = Some (answer status type_seen)
-head_in s (Some (Redirect status authorized from to)) = Some (redirect status authorized (take (to - from) (drop from s)))
+head_in s (Some (Redirect status authorized p)) = Some (redirect status authorized (take (p.to - p.from) (drop p.from s)))
 
 pub data HeadPlaced (s : Bytes) : Option Reading → Type 0 where
   no_head : HeadPlaced s None
   an_answer : {status : ℕ} {type_seen : Bool} → HeadPlaced s (Some (Answer status type_seen))
-  a_redirect : {status : ℕ} {authorized : Bool} {from to : ℕ} → from ≤ to → to ≤ length s → HeadPlaced s (Some (Redirect status authorized from to))
+  a_redirect : {status : ℕ} {authorized : Bool} {p : Span} → p.from ≤ p.to → p.to ≤ length s → HeadPlaced s (Some (Redirect status authorized p))
 
 pub record ReadsHead (s : Bytes) (o : Option Head) (r : Option Reading) : Type 0 where
   pub is : head_in s r ≡ o

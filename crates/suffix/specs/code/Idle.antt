@@ -24,6 +24,11 @@ pub record Skipped (table : Bytes) (from to : ℕ) : Type 0 where
   pub inside : to ≤ length table + 1
   pub is : (host : Bytes) → Idle host table from to
 
+-- where the line behind the one at a place begins, which finds nothing; none where it is another line, or there is none
+pub data SkippedLine (table : Bytes) (at : ℕ) : Option ℕ → Type 0 where
+  no_line : SkippedLine table at None
+  one_line : {next : ℕ} → at < length table → at < next → Skipped table at next → SkippedLine table at (Some next)
+
 unfoldable pub last_byte : Bytes → ℕ
 last_byte s = get_or s (length s - 1) 0
 

@@ -10,14 +10,8 @@ returns-in-Held-y c = search slots
 pub returns-in-Other-y : goal.returns-in-Other-y
 returns-in-Other-y c = search slots
 
-pub returns-in-Absent-y : goal.returns-in-Absent-y
-returns-in-Absent-y c = search slots
+pub returns-in_default-y : goal.returns-in_default-y
+returns-in_default-y c = search slots
 
-pub returns-in-Spoiled-y : goal.returns-in-Spoiled-y
-returns-in-Spoiled-y c = search slots
-
-pub returns-in-Absent : goal.returns-in-Absent
-returns-in-Absent c = search slots
-
-pub returns-in-Spoiled : goal.returns-in-Spoiled
-returns-in-Spoiled c = search slots
+pub returns-in_default : goal.returns-in_default
+returns-in_default c = search slots

@@ -1,29 +1,17 @@
 use Rattle.trusted_list.proofs.Laws.{slots}
 use Rattle.trusted_list.proofs.version_slot.Goals as goal
 
+pub returns-in_default : goal.returns-in_default
+returns-in_default c = search slots
+
+pub returns-in_default-second : goal.returns-in_default-second
+returns-in_default-second c = search slots
+
 pub returns-then-m-wanted : goal.returns-then-m-wanted
 returns-then-m-wanted c = search slots
 
 pub returns-then-n-wanted : goal.returns-then-n-wanted
 returns-then-n-wanted c = search slots
 
-pub returns-else-n-wanted : goal.returns-else-n-wanted
-returns-else-n-wanted c = search slots
-
-pub returns-in-Absent-y : goal.returns-in-Absent-y
-returns-in-Absent-y c = search slots
-
-pub returns-in-Other-y : goal.returns-in-Other-y
-returns-in-Other-y c = search slots
-
-pub returns-in-Spoiled-y : goal.returns-in-Spoiled-y
-returns-in-Spoiled-y c = search slots
-
-pub returns-in-Absent : goal.returns-in-Absent
-returns-in-Absent c = search slots
-
-pub returns-in-Other : goal.returns-in-Other
-returns-in-Other c = search slots
-
-pub returns-in-Spoiled : goal.returns-in-Spoiled
-returns-in-Spoiled c = search slots
+pub returns : goal.returns
+returns c = search slots

@@ -13,11 +13,11 @@ to_first = one_of (text "[") >> ws >> (if_next text "]" then fail else give tt)
 unfoldable pub to_next : Reader (Unit {0})
 to_next = ws >> one_of (text ",") >> ws
 
--- the place of the first string of the array at a place; Bad where it has none
+-- the place of the first string of the array at a place; none where it has none
 unfoldable pub first_entry : Bytes → ℕ → Option ℕ
 first_entry s p = place_of (read_at to_first s p)
 
--- the place of the string behind one that ends at a place; Bad where it is the last
+-- the place of the string behind one that ends at a place; none where it is the last
 unfoldable pub next_entry : Bytes → ℕ → Option ℕ
 next_entry s j = place_of (read_at to_next s j)
 

@@ -1,8 +1,6 @@
 -- What the one pass over a body holds of the values that it reads, and how that stands to the tree.
 use Rattle.std.specs.Prelude.{◌≡◌, List, [], ◌∷◌, ◌++◌, Bool, true, false, ◌&&◌, not, ℕ, eqb, if◌then◌else◌, Option, None, Some, Result, Ok, Err}
-use Rattle.ascii.specs.Ascii.{Bytes, is_none, all, text}
-use Rattle.json_text.specs.Reader.{Read, got, bad, Reader, ◌>>=◌, ◌>>◌, give, one_of, if_next◌then◌else◌}
-use Rattle.json_text.specs.Lexical.{ws, read_string}
+use Rattle.ascii.specs.Ascii.{Bytes, is_none, all}
 use Rattle.json_text.specs.code.Places.{read_at}
 use Rattle.json_values.specs.Json.{Json, to_items, to_members, read_value, value_read}
 use Rattle.refusals.specs.declared.Refusal.{Refusal}
@@ -11,36 +9,13 @@ use Rattle.trusted_list.specs.declared.Slot.{Slot}
 use Rattle.trusted_list.specs.declared.Slot.TheVariants.{Absent, Held, Other, Spoiled}
 use Rattle.trusted_list.specs.declared.Two.{Two}
 
--- ---- the code's answers as readings
-
--- what is held of a value, and the place behind it; or the bytes are no JSON
-unfoldable pub reading : {A : Type 0} → Option (ℕ × A) → Read A
-reading None = bad
-reading (Some p) = got p.1 p.0
-
--- the text reads to a value just where the code holds something of it, up to the same place, and the two stand in R
-pub data Relates {A B : Type 0} (R : A → B → Type 0) : Read A → Read B → Type 0 where
-  unread : Relates R bad bad
-  related : {a : A} {b : B} {j : ℕ} → R a b → Relates R (got a j) (got b j)
+-- ---- elements
 
 -- x stands for the elements before a, and y for those and a
 pub record Extends {A B : Type 0} (R : List A → B → Type 0) (x : B) (a : A) (y : B) : Type 0 where
   pub is : (done : List A) → R done x → R (done ++ a ∷ []) y
 
--- x stands for no element, whatever the text
-pub record Starts {A B : Type 0} (R : Bytes → List A → B → Type 0) (x : B) : Type 0 where
-  pub is : (s : Bytes) → R s [] x
-
 -- ---- members
-
--- a name, the colon, and blanks: what stands before a member's value
-unfoldable pub member_name : Reader Bytes
-member_name = do
-  name ← read_string
-  ws
-  one_of (text ":")
-  ws
-  give name
 
 -- what is held of a value, which came
 pub record Came (P : Json → Slot → Type 0) (v : Json) (x : Slot) : Type 0 where
@@ -59,6 +34,15 @@ fill Absent y = y
 fill (Held p) y = Spoiled
 fill Other y = Spoiled
 fill Spoiled y = Spoiled
+
+-- what is held, with what is held of a value of the first name more, or of the second
+unfoldable pub first_filled : Two → Option (ℕ × Slot) → Option (ℕ × Two)
+first_filled x None = None
+first_filled x (Some p) = Some (p.0, record { first = fill x.first p.1; second = x.second })
+
+unfoldable pub second_filled : Two → Option (ℕ × Slot) → Option (ℕ × Two)
+second_filled x None = None
+second_filled x (Some p) = Some (p.0, record { first = x.first; second = fill x.second p.1 })
 
 -- one name of an object
 pub record Name (a : Bytes) (P : Json → Slot → Type 0) (ms : List (Bytes × Json)) (x : Two) : Type 0 where
@@ -101,11 +85,11 @@ version_of major minor Spoiled y = Spoiled
 -- ---- `ids`: held by the place of its array
 
 unfoldable pub ids_at : Bytes → ℕ → Option (List Bytes)
-ids_at s p = ids_of (value_read (read_at (read_value 13) s p))
+ids_at s p = ids_in (value_read (read_at (read_value 13) s p))
   where
-    ids_of : Option Json → Option (List Bytes)
-    ids_of None = None
-    ids_of (Some v) = read_ids v
+    ids_in : Option Json → Option (List Bytes)
+    ids_in None = None
+    ids_in (Some v) = read_ids v
 
 pub data IdsIs (s : Bytes) (v : Json) : Slot → Type 0 where
   no_ids : read_ids v ≡ None → IdsIs s v Spoiled
@@ -120,6 +104,13 @@ strings_slot vs = if all is_string vs then Other else Spoiled
 
 pub record Strings (vs : List Json) (x : Two) : Type 0 where
   pub is : x.first ≡ strings_slot vs
+
+-- of what is held of the items of the array at p
+unfoldable pub ids_of : ℕ → Slot → Slot
+ids_of p Other = Held p
+ids_of p Absent = Spoiled
+ids_of p (Held q) = Spoiled
+ids_of p Spoiled = Spoiled
 
 -- ---- an object of the list
 

@@ -1,8 +1,8 @@
 use Rattle.suffix.proofs.SkipLaws.{skip_laws}
 use Rattle.suffix.proofs.skips.skip_comments.Goals as goal
 
-pub loop-at-init : goal.loop-at-init
-loop-at-init c = search skip_laws
+pub loop-next-init : goal.loop-next-init
+loop-next-init c = search skip_laws
 
-pub loop-at-preserved : goal.loop-at-preserved
-loop-at-preserved c = search skip_laws
+pub loop-next-preserved : goal.loop-next-preserved
+loop-next-preserved c = search skip_laws

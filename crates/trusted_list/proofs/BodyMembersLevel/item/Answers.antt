@@ -4,14 +4,11 @@ use Rattle.trusted_list.proofs.BodyMembersLevel.item.Goals as goal
 pub returns-in_err-k : goal.returns-in_err-k
 returns-in_err-k c = rw c.from_residual.ensures (search members)
 
-pub returns-in_err-j : goal.returns-in_err-j
-returns-in_err-j c = rw c.from_residual-in_err-j.ensures (search members)
-
 pub returns-then-is_name : goal.returns-then-is_name
 returns-then-is_name c = search members
 
-pub returns-in_err-j-2 : goal.returns-in_err-j-2
-returns-in_err-j-2 c = rw c.from_residual-in_err-j-2.ensures (search members)
+pub returns-in_err-j : goal.returns-in_err-j
+returns-in_err-j c = rw c.from_residual-in_err-j.ensures (search members)
 
 pub returns : goal.returns
 returns c = search members

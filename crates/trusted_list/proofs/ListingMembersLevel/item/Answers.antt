@@ -4,20 +4,14 @@ use Rattle.trusted_list.proofs.ListingMembersLevel.item.Goals as goal
 pub returns-in_err-k : goal.returns-in_err-k
 returns-in_err-k c = rw c.from_residual.ensures (search members)
 
-pub returns-in_err-j : goal.returns-in_err-j
-returns-in_err-j c = rw c.from_residual-in_err-j.ensures (search members)
-
 pub returns-then-is_name : goal.returns-then-is_name
 returns-then-is_name c = search members
-
-pub returns-in_err-j-2 : goal.returns-in_err-j-2
-returns-in_err-j-2 c = rw c.from_residual-in_err-j-2.ensures (search members)
 
 pub returns-then-is_name-2 : goal.returns-then-is_name-2
 returns-then-is_name-2 c = search members
 
-pub returns-in_err-j-3 : goal.returns-in_err-j-3
-returns-in_err-j-3 c = rw c.from_residual-in_err-j-3.ensures (search members)
+pub returns-in_err-j : goal.returns-in_err-j
+returns-in_err-j c = rw c.from_residual-in_err-j.ensures (search members)
 
 pub returns : goal.returns
 returns c = search members

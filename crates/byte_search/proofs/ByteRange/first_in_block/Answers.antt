@@ -1,0 +1,11 @@
+use Rattle.byte_search.proofs.RangeLaws.{block_laws}
+use Rattle.byte_search.proofs.ByteRange.first_in_block.Goals as goal
+
+pub loop-k-init : goal.loop-k-init
+loop-k-init c = search block_laws
+
+pub loop-k-preserved : goal.loop-k-preserved
+loop-k-preserved c = search block_laws
+
+pub returns : goal.returns
+returns c = search block_laws

@@ -1,5 +1,0 @@
-use Rattle.byte_search.proofs.RangeLaws.{Block}
-use Rattle.byte_search.proofs.first_in_block.Given as goal
-
-abbrev pub invariant-loop-k : goal.invariant-loop-k
-invariant-loop-k l = Block l.lo l.hi l.s l.from l.r l.k
