@@ -2,7 +2,7 @@
 
     python3 tools/answers.py CRATE FN[=RULESET] ..
 
-FN is named by its path below src/, as `skips::kinds`. What only the author knows stays as it stands in the files: Invariants.antt, answers of more than a search, and which ruleset
+FN is named by its path below src/, as `skips::line_end`. What only the author knows stays as it stands in the files: Invariants.antt, answers of more than a search, and which ruleset
 answers a goal of which name. A goal that is new gets RULESET, or else the ruleset that most answers of the file have, or else `laws` of proofs/Laws.antt.
 Run it again when the goals of a function change (a call or a branch more).
 """

@@ -27,6 +27,7 @@ fn print_refusal(rt: &impl Print, x: Refusal) -> io::Result<()> {
     println!(rt; "refused {}", u16::from(x))
 }
 
+// The first n bytes of the output, which the array holds: there is no heap.
 fn print_list(rt: &impl Print, out: &[u8], n: usize) -> io::Result<()> {
     rt.write_all(ascii::prefix(out, n))?;
     rt.write_all(b"\n")

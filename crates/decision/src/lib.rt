@@ -102,6 +102,7 @@ fn first_match(caller: &[u8], list: &Selected) -> Option<usize>
             if matching::matches(caller, entries.held()) {
                 return Some(n);
             }
+            // of the kept entries, so no index of the loop
             n += 1;
         }
     }
@@ -130,8 +131,8 @@ fn by_list(
 
 // ---- the decision
 
-// Version, body and table are arguments, as document 01's decision has them: a struct of the three would be made in each exported call
-// and taken apart here, in cleaning and in the tally.
+// Caller, AppID, version, body and table are arguments, as document 01's decision has them: a struct of them would be made in each
+// exported call and taken apart here, and cleaning and the tally have no caller.
 pub fn decide(
     caller: &[u8],
     appid: &[u8],
@@ -153,7 +154,7 @@ pub fn decide(
 
 // ---- the fetch location
 
-// The AppID, or a part of the text.
+// The AppID, or a part of the text: the two lent slices that a location stands in. Neither is nothing, so no Option.
 #[derive(Clone, Copy)]
 pub enum Location {
     AppId,

@@ -6,6 +6,7 @@ use json_text::Decoded;
 
 // The entry that was read last, decoded, and where the next one stands. No iterator: its items would have to copy what is held. And
 // `advance` does not hand out what is held: of a walk that its result borrows from, a clause would say nothing without a proof by hand.
+// Nor a method that takes a closure: each caller adds up a number whose bound its loop's invariant has, and the closure would have to ask for it.
 #[derive(Drop)]
 pub struct Entries<'a> {
     pub(crate) list: &'a Selected<'a>,
@@ -32,9 +33,6 @@ impl<'a> Entries<'a> {
     pub fn held(&self) -> &[u8]
         ensures { result.now ≡ unwrap_or (held_of self.now) [] }
     {
-        match self.last.held() {
-            Some(entry) => entry,
-            None => b"",
-        }
+        self.last.held().unwrap_or(b"")
     }
 }

@@ -14,10 +14,6 @@ pub ruleset more_laws = (count_more)
 pub ruleset laws = (redirect_is, hop_inside, hop_long, hop_open, hop_end, hop_bad, hop_good, hops_start, hops_end, hops_refused, hops_more, layout_placed, settle_bad, settle_refused, settle_passed, target_bad, target_there, last_none, last_part, last_long, rules)
 
 -- for a return: its law alone, so that a search that finds nothing ends
-pub ruleset fields_laws = (fields_are)
-
 pub ruleset redirect_laws = (redirect_read)
 
 pub ruleset answer_laws = (answer_read_lem)
-
-pub ruleset long_laws = (end_long)

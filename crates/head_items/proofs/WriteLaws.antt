@@ -162,8 +162,4 @@ pub ruleset redirect_laws = (redirect_room, redirect_full, rules)
 pub ruleset head_laws = (head_refused, head_answer, head_redirect, head_small, rules)
 
 -- for a return: its law alone, so that a search that finds nothing ends
-pub ruleset room_laws = (room_start)
-
 pub ruleset item_laws = (item_is)
-
-pub ruleset written_laws = (answer_written)

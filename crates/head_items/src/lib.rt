@@ -45,6 +45,7 @@ impl Redirect<'_> {
         ensures { result ≡ redirect_item self.now.status self.now.authorized self.now.start (length self.now.location.now) }
     {
         let status = self.status.to_be_bytes();
+        // both fit: the start was tested by `has_room`, and the bound of the Location is in the type
         let start = (self.start as u16).to_be_bytes();
         let size = (self.location.len() as u16).to_be_bytes();
         [

@@ -6,6 +6,7 @@ use full_reads::read_full;
 use std::io;
 use std::num::wrapping_add_u64;
 
+// The text is the first n bytes of the array: there is no heap.
 fn turn(s: &mut [u8], n: usize, blank: u8) -> u64 {
     if s.len() == 0 {
         return 0;

@@ -1,4 +1,4 @@
-// Texts built in a buffer of 1,024 bytes. What does not fit is left out.
+// Texts built in a buffer of 1,024 bytes, of which the first so many are used: there is no heap. What does not fit is left out.
 use json_text::Decoded;
 use normal_forms::write_bytes;
 

@@ -73,6 +73,7 @@ fn one(rt: &impl Print, reader: &mut impl Read) -> io::Result<bool> {
 
 fn main(rt: HostRuntime) -> io::Result<()> {
     let mut reader = rt.reader();
+    // a `for`, as no loop may run for ever; so many texts never come
     for _ in 0..u64::MAX {
         if !one(&rt, &mut reader)? {
             break;

@@ -68,7 +68,7 @@ impl Decoded {
         self.len = n + 1;
     }
 
-    // The bytes of a part of s more.
+    // The bytes of a part of s more, one by one, since any of them may be the first that is not held.
     fn put_part(&mut self, s: &[u8], from: usize, to: usize)
         ensures { content self.new ≡ push (content self.old) (take (to - from) (drop from s.now)) }
     {
@@ -78,7 +78,8 @@ impl Decoded {
         }
     }
 
-    // The bytes of a code point more (RFC 3629, section 3, the table): six bits to each byte behind the first.
+    // The bytes of a code point more (RFC 3629, section 3, the table): six bits to each byte behind the first. Written out,
+    // as the definition is: `char::encode_utf8` asks for a `char`, and a surrogate, which was refused before, is none.
     fn put_code(&mut self, c: u32)
         ensures { content self.new ≡ push (content self.old) (encode_utf8 c) }
     {
@@ -126,7 +127,8 @@ impl Decoded {
         }
         self.len = 0;
         let mut i = from + 1;
-        // character after character, each of which says where the next one begins
+        // Character after character, each of which says where the next one begins. The loop of `skip_chars` with another step: the
+        // closure that a loop of both would take changes what is held, and its contract is longer than the loop.
         loop {
             if byte_at(s, i) == Some(b'"') {
                 return Some(i + 1);

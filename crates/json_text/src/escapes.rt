@@ -5,7 +5,8 @@ ghost use Rattle.json_text.specs.code.Places.{read_at, point_of, hex_at};
 
 use super::{byte_at, skip_word};
 
-// HEXDIG (RFC 5234, B.1), letters in either case (RFC 8259, section 7): its number.
+// HEXDIG (RFC 5234, B.1), letters in either case (RFC 8259, section 7): its number. By hand, since
+// `char::to_digit` takes a character and gives a wider number, each of which would have to be made of a byte, or into one.
 fn hex_value(b: u8) -> Option<u8>
     ensures { result ≡ hex_value b }
 {

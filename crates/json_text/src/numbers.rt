@@ -44,6 +44,7 @@ fn skip_frac(s: &[u8], from: usize) -> usize
     }
 }
 
+// Beside `skip_minus`, whose grammar has one sign: a function of both would take the signs and look among them.
 fn skip_sign(s: &[u8], from: usize) -> usize
     ensures { read_at (optional (one_of (text "+-"))) s.now from ≡ got tt result }
 {

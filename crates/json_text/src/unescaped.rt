@@ -7,7 +7,7 @@ ghost use Rattle.json_text.specs.code.Places.{read_at, place_of};
 
 use super::byte_at;
 
-// A byte from lo to hi.
+// A byte from lo to hi: two numbers, here and below, since each call writes the two that the table of RFC 3629 has.
 pub fn skip_range(s: &[u8], from: usize, lo: u8, hi: u8) -> Option<usize>
     ensures { result ≡ place_of (read_at (byte_range lo hi) s.now from) }
 {

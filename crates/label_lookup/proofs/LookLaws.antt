@@ -8,13 +8,13 @@ use native.Mathlib.Omega.{arith}
 use lib.ListN.{length}
 use lib.Seq.{drop-length}
 use lib.Dec.{leb, ltb}
-use borrow.Author.Tests.{le-leb, lt-ltb, ltb-true, leb-true}
+use borrow.Author.Tests.{le-leb, le-ltb, lt-ltb, ltb-true, leb-true}
 use Rattle.ascii.specs.Ascii.{Bytes, is_none, last_of, join_with}
 use Rattle.hosts.specs.Host.{labels, is_host, is_address}
 use Rattle.hosts.specs.code.Place.{Stands}
 use Rattle.hosts.proofs.Ends.{both_ways}
 use Rattle.suffix.specs.Suffix.{Rule, read_table, private_label, or_empty}
-use Rattle.suffix.specs.code.Pass.{sizes_of, best_of, size_of, LabelAt}
+use Rattle.suffix.specs.code.Pass.{best_of, size_of, LabelAt}
 use Rattle.suffix.specs.code.Deeper.{deeper_in, is_deeper}
 use Rattle.suffix.specs.code.Depth.{deepest, deeper_than}
 use Rattle.suffix.specs.declared.Sizes.{Sizes}
@@ -23,6 +23,7 @@ use Rattle.suffix.proofs.Speed.{last_names}
 use Rattle.suffix.proofs.Answers.{at_malformed, at_address, at_bad, at_label, at_whole, labelled}
 use Rattle.suffix.proofs.Lines.{is_told}
 use borrow.Author.Rules.{rules}
+use Rattle.std.proofs.lemmas.Option.{none-some}
 use Rattle.suffix.proofs.Owned.{label_some}
 use Rattle.label_lookup.specs.code.Answer.{depths_of, LabelFound, LookupIs, unread, looked_up}
 use Rattle.label_lookup.specs.declared.Lookup.{Lookup}
@@ -31,8 +32,8 @@ use Rattle.label_lookup.proofs.RoundLaws.{depth_in, best_in}
 
 -- ---- the answer
 
-abbrev pub lookup : ℕ → Sizes → Bool → Lookup
-lookup r s b = record { start = r; sizes = s; goes_deeper = b }
+abbrev pub lookup : ℕ → Option Sizes → Lookup
+lookup r d = record { start = r; deeper = d }
 
 no_label : (table host : Bytes) → LabelAt table host (length host) → private_label table host ≡ None
 no_label table host L = go (private_label table host) refl (sym (drop-length host) ∙ L.is)
@@ -42,13 +43,13 @@ no_label table host L = go (private_label table host) refl (sym (drop-length hos
     go (Some l) p e = absurd (omega (arith, ap length e, label_some table host l p))
 
 abbrev lookup_in : Option Lookup → Lookup
-lookup_in None = record { start = 0; sizes = sizes_of 0 0; goes_deeper = false }
+lookup_in None = record { start = 0; deeper = None }
 lookup_in (Some l) = l
 
 module _ (table host : Bytes) where
-  none_found : (s : Sizes) → LabelAt table host (length host) → Some s ≡ best_of (labels host) (read_table table) → LabelFound table host (lookup (length host) s false)
+  none_found : LabelAt table host (length host) → LabelFound table host (lookup (length host) None)
   unfolding deeper_than
-  none_found s L b = record { place = L; found = b; deeper_is = rw (no_label table host L) }
+  none_found L = record { place = L; deeper_is = rw (no_label table host L); found = λ z t. absurd (none-some z t) }
 
   pub lookup_bad : {q : Option Depths} → q ≡ depths_of (labels host) (read_table table) → q ≡ None → LookupIs table host None
   lookup_bad t w = unread (go (read_table table) (sym w ∙ t))
@@ -108,29 +109,43 @@ module _ (table host : Bytes) where
     best : Some f.sizes ≡ best_of (labels host) (read_table table)
     best = to_best f (read_table table) t
 
-    pub lookup_malformed : {a : Bool} → a ≡ is_host host → a ≡ false → LookupIs table host (Some (lookup (length host) f.sizes false))
-    lookup_malformed h h' = looked_up good_is (none_found f.sizes (at_malformed table host h h') best)
+    pub lookup_malformed : {a : Bool} → a ≡ is_host host → a ≡ false → LookupIs table host (Some (lookup (length host) None))
+    lookup_malformed h h' = looked_up good_is (none_found (at_malformed table host h h'))
 
-    pub lookup_address : {b : Bool} → b ≡ is_address (labels host) → b ≡ true → LookupIs table host (Some (lookup (length host) f.sizes false))
-    lookup_address i i' = looked_up good_is (none_found f.sizes (at_address table host i i') best)
+    pub lookup_address : {b : Bool} → b ≡ is_address (labels host) → b ≡ true → LookupIs table host (Some (lookup (length host) None))
+    lookup_address i i' = looked_up good_is (none_found (at_address table host i i'))
 
     module _ {n : ℕ} (s : n ≡ size_of f.sizes.exception f.sizes.most) (h : is_host host ≡ true) (i : is_address (labels host) ≡ false) where
-      pub lookup_whole : {k : ℕ} → k ≡ length (labels host) → k ≤ n → LookupIs table host (Some (lookup (length host) f.sizes false))
-      lookup_whole c l = looked_up good_is (none_found f.sizes (at_whole table host (sym h) refl (sym i) refl best refl s c l) best)
+      pub lookup_whole : {k : ℕ} → k ≡ length (labels host) → k ≤ n → LookupIs table host (Some (lookup (length host) None))
+      lookup_whole c l = looked_up good_is (none_found (at_whole table host (sym h) refl (sym i) refl best refl s c l))
 
-      pub lookup_label : {r : ℕ} → n < length (labels host) → Stands (last_of (n + 1) (labels host)) host r → LookupIs table host (Some (lookup r f.sizes (ltb n f.depth)))
-      lookup_label l S = looked_up good_is (record {
-        place = at_label table host (sym h) refl (sym i) refl best refl s refl l S;
-        found = best;
-        deeper_is = leb_ltb n f.depth ∙ to_depth f (n + 1) (read_table table) t (omega arith) (omega arith)
-            ∙ sym (rw (labelled table host (sym h) refl (sym i) refl best refl s refl l) deep);
-      })
-        where
-          deep : deeper_than table (Some (join_with 46 (last_of (n + 1) (labels host)))) ≡ deeper_in (last_of (n + 1) (labels host)) (read_table table)
-          deep = unfold deeper_than is_deeper in (ap (λ (ls : List Bytes). deeper_in ls (read_table table)) (last_names host (n + 1) (omega arith)))
+      module _ {r : ℕ} (l : n < length (labels host)) (S : Stands (last_of (n + 1) (labels host)) host r) where
+        place_is : LabelAt table host r
+        place_is = at_label table host (sym h) refl (sym i) refl best refl s refl l S
+
+        past_is : ltb n f.depth ≡ deeper_than table (private_label table host)
+        past_is = leb_ltb n f.depth ∙ to_depth f (n + 1) (read_table table) t (omega arith) (omega arith)
+            ∙ sym (rw (labelled table host (sym h) refl (sym i) refl best refl s refl l) deep)
+          where
+            deep : deeper_than table (Some (join_with 46 (last_of (n + 1) (labels host)))) ≡ deeper_in (last_of (n + 1) (labels host)) (read_table table)
+            deep = unfold deeper_than is_deeper in (ap (λ (ls : List Bytes). deeper_in ls (read_table table)) (last_names host (n + 1) (omega arith)))
+
+        pub lookup_deeper : n < f.depth → LookupIs table host (Some (lookup r (Some f.sizes)))
+        lookup_deeper d = looked_up good_is (record {
+          place = place_is;
+          deeper_is = sym (lt-ltb n f.depth d) ∙ past_is;
+          found = λ z t. sym t ∙ best;
+        })
+
+        pub lookup_label : f.depth ≤ n → LookupIs table host (Some (lookup r None))
+        lookup_label d = looked_up good_is (record {
+          place = place_is;
+          deeper_is = sym (le-ltb n f.depth d) ∙ past_is;
+          found = λ z t. absurd (none-some z t);
+        })
 
 -- its premises in an order in which each fixes the next one's unknowns
-pub ruleset lookup_laws = (lookup_bad, lookup_malformed, lookup_address, lookup_whole, is_told, found_told, name_told, fewer_told, lookup_label, rules)
+pub ruleset lookup_laws = (lookup_bad, lookup_malformed, lookup_address, lookup_whole, is_told, found_told, name_told, fewer_told, lookup_deeper, lookup_label, rules)
 
 -- of `label_start` and `private_label`
 pub ruleset start_laws = (at_malformed, at_address, start_bad, rules)

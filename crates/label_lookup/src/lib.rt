@@ -28,14 +28,13 @@ pub struct Depths {
     pub depth: usize,
 }
 
-// What one pass tells of a host: where its private label begins, its end where there is none, what the table finds for the host, and
-// whether a rule goes deeper than that label. The start is no Option, here and below: the label is the host from there on, and an
+// What one pass tells of a host: where its private label begins, its end where there is none, and what the table finds for the host,
+// where a rule goes deeper than that label. The start is no Option, here and below: the label is the host from there on, and an
 // empty one is what the interface of C answers for none.
 #[derive(Clone, Copy)]
 pub struct Lookup {
     pub start: usize,
-    pub sizes: Sizes,
-    pub goes_deeper: bool,
+    pub deeper: Option<Sizes>,
 }
 
 // What is held of rules that go deeper than the private label of a host: what the table finds for the host; and where a span of lines
@@ -268,16 +267,14 @@ pub fn deep_rules(host: &[u8], table: &[u8]) -> Option<Depths>
     deep_lines(&classes, &kinds, last, table)
 }
 
-// The private label and whether rules go deeper, in one pass; none for a bad table.
+// The private label, and what the table finds where rules go deeper, in one pass; none for a bad table.
 fn look_up(host: &[u8], table: &[u8]) -> Option<Lookup>
     ensures { LookupIs table.now host.now result }
 {
     let found = deep_rules(host, table)?;
-    let sizes = found.sizes;
     let without = Lookup {
         start: host.len(),
-        sizes,
-        goes_deeper: false,
+        deeper: None,
     };
     if !hosts::is_host(host) {
         return Some(without);
@@ -285,15 +282,15 @@ fn look_up(host: &[u8], table: &[u8]) -> Option<Lookup>
     if hosts::is_address(host) {
         return Some(without);
     }
-    let n = sizes.suffix_size();
+    let n = found.sizes.suffix_size();
     if n < hosts::label_count(host) {
         let start = hosts::last_labels(host, n + 1);
-        let goes_deeper = n < found.depth;
-        return Some(Lookup {
-            start,
-            sizes,
-            goes_deeper,
-        });
+        let deeper = if n < found.depth {
+            Some(found.sizes)
+        } else {
+            None
+        };
+        return Some(Lookup { start, deeper });
     }
     Some(without)
 }
@@ -305,12 +302,9 @@ pub fn find_owner(host: &[u8], table: &[u8]) -> Option<Owner>
 {
     let found = look_up(host, table)?;
     let start = found.start;
-    if found.goes_deeper {
+    if let Some(sizes) = found.deeper {
         let span = spans::find_span(&host[start..], table);
-        let deeper = Deeper {
-            sizes: found.sizes,
-            span,
-        };
+        let deeper = Deeper { sizes, span };
         return Some(Owner {
             start,
             deeper: Some(deeper),

@@ -11,7 +11,8 @@ ghost use Rattle.matching.specs.code.Unlike.{is_stop, may_end, apart, unlike};
 
 use origin::Parts;
 
-// The hosts of x and y, which end at a and b, are equal without regard to case.
+// The hosts of x and y, which end at a and b, are equal without regard to case. That a host ends at a place is asked in three private
+// contracts of two crates: a type of text and place would be made and taken apart at each of the calls.
 fn equal_hosts(x: &[u8], a: usize, y: &[u8], b: usize) -> bool
     requires { HostEnd x.now a × HostEnd y.now b }
     ensures { result ≡ same_no_case (part x.now 8 a) (part y.now 8 b) }

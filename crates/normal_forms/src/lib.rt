@@ -22,7 +22,8 @@ fn fits(room: usize, at: usize, n: usize) -> bool
     at <= room - n
 }
 
-// The bytes x written into out at a place, where there is room for them all.
+// The bytes x written into out at a place, where there is room for them all. Output and place are two arguments, here and in cleaning: a
+// struct of both would hold what is lent, and every caller would have to take it apart again to say what stands in it.
 // Returns the place behind them, or the same place where there is no room.
 pub fn write_bytes(x: &[u8], out: &mut [u8], at: usize) -> usize
     ensures { Wrote x.now at out.old out.new result }

@@ -180,7 +180,8 @@ fn is_key_hash_byte(classes: &Classes, b: u8) -> bool
     b == b'/'
 }
 
-// Exactly 27 characters behind the prefix of 21: 48 bytes.
+// Exactly 27 characters behind the prefix of 21: 48 bytes. Beside `is_ios`: length, prefix and test of each stand together, as in document
+// 01; a function of both would take all of these.
 pub fn is_android(s: &[u8]) -> bool
     ensures { result ≡ is_android s.now }
 {

@@ -101,6 +101,3 @@ unfolding fits_byte
 fits_other p b n = rw (ne_eqb p 48 n)
 
 pub ruleset byte_laws = (blank_space, blank_tab, text_low, text_high, tchar_alphanumeric, tchar_mark, fits_digit, fits_other, rules)
-
--- for a return: its law alone, so that a search that finds nothing ends
-pub ruleset mark_laws = (tchar_mark)

@@ -7,7 +7,7 @@ use Prim.Native.Nat.{ℕ, ◌+◌, ◌-◌, ◌^◌, ◌≤◌, ◌<◌}
 use native.Mathlib.Omega.{arith}
 use lib.ListN.{length, take, drop, length-drop, drop_of_length-le}
 use lib.Seq.{length-take-le}
-use lib.Dec.{eqb, lit≤}
+use lib.Dec.{eqb}
 use mir.Syntax.{w64}
 use mir.Val.{Fits}
 use borrow.Author.Rules.{rules}
@@ -274,10 +274,3 @@ pub ruleset gather_laws = (line_is, line_fits, line_high, gather_starts, gather_
 pub ruleset head_laws = (makes_low, makes_high, makes_nowhere, makes_several, makes_redirect, first_high, first_text, first_fits, head_cut, head_no_status, head_no_fields, head_is, rules)
 
 pub ruleset bound_laws = (head_long, head_short, rules)
-
--- for a return: its law alone, so that a search that finds nothing ends
-pub ruleset last_laws = (gather_last)
-
-pub ruleset makes_laws = (makes_redirect)
-
-pub ruleset short_laws = (head_short, lit≤, tt)

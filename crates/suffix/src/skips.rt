@@ -14,7 +14,7 @@ use byte_search::ByteRange;
 use std::array;
 
 // The first line that may find something: a host, from its start to its end; or another line, of which only the start is known. Two
-// findings, neither of them an error or nothing, so no Option or Result.
+// findings, neither of them an error or nothing, so no Option or Result; the two places of a host are made and taken apart in this file.
 #[derive(Clone, Copy)]
 pub enum Stop {
     Host(usize, usize),

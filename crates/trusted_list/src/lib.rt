@@ -21,6 +21,7 @@ use refusals::Refusal;
 // place; it came and is good, but not what is wanted; it came misshapen, or more than once.
 // No Option or Result, which tell two apart: the level above judges each of the four in its own way. `fill` takes a value
 // only after Absent, `earlier` only after Other, `listing_slot` tells Held from Other, and Spoiled spoils all.
+// What is held is one number for each level: of a version's members their values, of ids their place, of a whole version nothing (0).
 #[derive(Clone, Copy)]
 pub enum Slot {
     Absent,
@@ -54,6 +55,7 @@ fn fill(x: Slot, y: Slot) -> Slot
 }
 
 // What is held of two names, with a value of the first more, or of the second; none where the value is no JSON.
+// Two functions, since a field is no argument.
 fn fill_first(two: Two, read: Option<(usize, Slot)>) -> Option<(usize, Two)>
     ensures { result ≡ first_filled two read }
 {
@@ -85,7 +87,7 @@ fn read_number(s: &[u8], from: usize) -> Option<(usize, Slot)>
 
 // ---- what stands between two brackets
 
-// An array or an object.
+// An array or an object: the two kinds of JSON values with elements.
 #[derive(Clone, Copy)]
 pub enum Kind {
     Array,

@@ -4,8 +4,8 @@ use Rattle.label_lookup.proofs.find_owner.Goals as goal
 pub returns-in_err-found : goal.returns-in_err-found
 returns-in_err-found c = search owner_laws
 
-pub returns-then-found : goal.returns-then-found
-returns-then-found c = search owner_laws
+pub returns-in-Some : goal.returns-in-Some
+returns-in-Some c = search owner_laws
 
 pub returns : goal.returns
 returns c = search owner_laws

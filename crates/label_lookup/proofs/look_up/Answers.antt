@@ -10,8 +10,11 @@ returns-then-not-is_host c = search lookup_laws
 pub returns-then-is_address : goal.returns-then-is_address
 returns-then-is_address c = search lookup_laws
 
-pub returns-then-n-label_count : goal.returns-then-n-label_count
-returns-then-n-label_count c = search lookup_laws
+pub returns-then-n-found : goal.returns-then-n-found
+returns-then-n-found c = search lookup_laws
+
+pub returns-else-n-found : goal.returns-else-n-found
+returns-else-n-found c = search lookup_laws
 
 pub returns : goal.returns
 returns c = search lookup_laws

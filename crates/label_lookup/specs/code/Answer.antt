@@ -1,5 +1,5 @@
 -- What one pass tells of a host: sizes and depth, the private label, and whether a rule goes deeper.
-use Rattle.std.specs.Prelude.{◌≡◌, List, false, ℕ, max, Option, None, Some}
+use Rattle.std.specs.Prelude.{◌≡◌, List, false, ℕ, max, Option, None, Some, is_some}
 use Rattle.ascii.specs.Ascii.{Bytes, is_none, filter_by}
 use Rattle.hosts.specs.Host.{labels}
 use Rattle.suffix.specs.Suffix.{Rule, read_table, matches, private_label}
@@ -22,11 +22,11 @@ unfoldable pub deepened : ℕ → Option Depths → Option Depths
 deepened d None = None
 deepened d (Some f) = Some (depths f.sizes (max d f.depth))
 
--- where the label begins, what the table finds for the host, and whether a rule goes deeper
+-- where the label begins, whether a rule goes deeper, and what the table finds for the host then
 pub record LabelFound (table host : Bytes) (l : Lookup) : Type 0 where
   pub place : LabelAt table host l.start
-  pub found : Some l.sizes ≡ best_of (labels host) (read_table table)
-  pub deeper_is : l.goes_deeper ≡ deeper_than table (private_label table host)
+  pub deeper_is : is_some l.deeper ≡ deeper_than table (private_label table host)
+  pub found : (z : Sizes) → l.deeper ≡ Some z → Some z ≡ best_of (labels host) (read_table table)
 
 -- none where the table is bad
 pub data LookupIs (table host : Bytes) : Option Lookup → Type 0 where
