@@ -3,10 +3,9 @@ use Rattle.std.specs.Prelude.{if◌then◌else◌}
 use mathlib.Core.Path.{◌≡◌, refl, sym, ◌∙◌}
 use mathlib.Core.List.{List, [], ◌∷◌, ◌++◌, map}
 use mathlib.Core.Bool.{Bool, true, false, ◌&&◌, and-eq-true_iff}
-use Prim.Native.Nat.{ℕ, ◌-◌, ◌<◌, ◌≤◌}
+use Prim.Native.Nat.{ℕ, ◌≤◌}
 use native.Mathlib.Omega.{arith}
-use lib.ListN.{length, take, drop, length-drop, drop_of_length-le, take-append-drop}
-use lib.Seq.{take_all, take-nil}
+use lib.ListN.{length, take, drop, take-append-drop}
 use Rattle.ascii.specs.Ascii.{Bytes, all, is_empty, filter_by}
 
 module _ {A : Type 0} (p : A → Bool) where
@@ -67,23 +66,3 @@ empty_not (b ∷ s) n = refl
 
 pub filled : (s : Bytes) → 1 ≤ length s → is_empty s ≡ false
 filled s h = empty_not s (λ e. omega arith)
-
--- ---- the first bytes of a slice
-
-pub prefix_part : (s : Bytes) (n : ℕ) → take (n - 0) (drop 0 s) ≡ take n s
-prefix_part s n = let z : n - 0 ≡ n = omega arith in rw z
-
-pub prefix_all : (s : Bytes) (n : ℕ) → length s < n → s ≡ take n s
-prefix_all s n h = sym (take_all n s (omega arith))
-
--- ---- a part of a slice
-
-module _ (s : Bytes) (from to : ℕ) where
-  pub part_past : length s < from → take 0 (drop 0 s) ≡ take (to - from) (drop from s)
-  part_past h = let l : length s ≤ from = omega arith in rw (drop_of_length-le s l, take-nil)
-
-  pub part_none : to < from → take 0 (drop 0 s) ≡ take (to - from) (drop from s)
-  part_none h = let z : to - from ≡ 0 = omega arith in rw z
-
-  pub part_rest : from ≤ to → length s < to → take (length s - from) (drop from s) ≡ take (to - from) (drop from s)
-  part_rest h l = take_all (length s - from) (drop from s) (simp length-drop (omega arith)) ∙ sym (take_all (to - from) (drop from s) (simp length-drop (omega arith)))

@@ -2,8 +2,8 @@
 use mathlib.Core.Path.{◌≡◌, refl, sym, ◌∙◌}
 use mathlib.Core.List.{[], ◌∷◌}
 use mathlib.Core.Bool.{Bool, true, false, ◌&&◌, and-false, and-eq-true_iff}
-use Rattle.std.specs.Prelude.{Option, None, Some}
-use Prim.Native.Nat.{ℕ, ◌+◌, ◌-◌, ◌*◌, ◌/◌, ◌%◌, ◌≤◌, ◌<◌}
+use Rattle.std.specs.Prelude.{Option, None, Some, SomeIff}
+use Prim.Native.Nat.{ℕ, ◌+◌, ◌-◌, ◌*◌, ◌/◌, ◌%◌, ◌^◌, ◌≤◌, ◌<◌}
 use native.Mathlib.Numerals.{add-one}
 use native.Mathlib.Omega.{arith}
 use lib.ListN.{length, drop, get_or, drop_of_length-le}
@@ -60,6 +60,17 @@ from_over : (n : ℕ) (s : Bytes) → 65535 < n → number_from n s ≡ None
 unfolding number_from
 from_over n s h = rw (lt-leb (value_from n s) 65535 (omega (arith, no_fall n s)), and-false (all is_digit s))
 
+-- what 16 bits hold of an answer of checked arithmetic
+record Fits16 (v m : ℕ) : Type 0 where
+  pub small : m ≤ 65535
+  pub is : m ≡ v
+
+fits16 : {o : Option ℕ} {v m : ℕ} → SomeIff o (v < 2 ^ 16) v → o ≡ Some m → Fits16 v m
+fits16 {v = v} {m = m} a e = let k : (v < 2 ^ 16) × (m ≡ v) = rw e at a in record { small = omega (arith, k.0, k.1); is = k.1 }
+
+over16 : {o : Option ℕ} {v : ℕ} → SomeIff o (v < 2 ^ 16) v → o ≡ None → 65535 < v
+over16 {v = v} a e = let k : v < 2 ^ 16 → ⊥ = rw e at a in omega (arith, k)
+
 -- what is read so far is n; what is left decides
 pub record Digits (s : Bytes) (goal : Option ℕ) (n i : ℕ) : Type 0 where
   pub small : n ≤ 65535
@@ -90,11 +101,22 @@ module _ {s : Bytes} {goal : Option ℕ} {n i : ℕ} (D : Digits s goal n i) whe
       unfolding number_from all value_from
       number_step = rw (g.is, add-one, drop-cons s i 0 h, sym e ∙ f)
 
-      pub number_over : {m : ℕ} → m < n * 10 + d → 65535 ≤ m → None ≡ goal
-      number_over k l = (rw (number_step, from_over (n * 10 + d) (drop (i + 1) s) (omega arith))) ∙ D.is
+      past : 65535 < n * 10 + d → None ≡ goal
+      past k = (rw (number_step, from_over (n * 10 + d) (drop (i + 1) s) k)) ∙ D.is
 
-      pub number_more : n * 10 + d ≤ 65535 → Digits s goal (n * 10 + d) (i + 1)
-      number_more k = record { small = k; is = sym number_step ∙ D.is }
+      module _ {o p : Option ℕ} {t : ℕ} (a : SomeIff o (n * 10 < 2 ^ 16) (n * 10)) (b : o ≡ Some t) (c : SomeIff p (t + d < 2 ^ 16) (t + d)) where
+        pub number_over : {r : Option ℕ} → p ≡ None → r ≡ None → r ≡ goal
+        number_over j k = k ∙ past (omega (arith, over16 c j, (fits16 a b).is))
+
+        pub number_more : {m : ℕ} → p ≡ Some m → Digits s goal m (i + 1)
+        number_more {m} j =
+            let y = fits16 c j in
+            let z : m ≡ n * 10 + d = omega (arith, (fits16 a b).is, y.is) in
+            record { small = y.small; is = rw z (sym number_step ∙ D.is) }
+
+    module _ {q : Bool} (e : q ≡ is_digit (get_or s i 0)) (f : q ≡ true) where
+      pub number_far : {o r : Option ℕ} → SomeIff o (n * 10 < 2 ^ 16) (n * 10) → o ≡ None → r ≡ None → r ≡ goal
+      number_far a j k = k ∙ past e f (digit_is (get_or s i 0) (sym e ∙ f)) (omega (arith, over16 a j))
 
 -- ---- written
 
@@ -131,4 +153,4 @@ module _ (n : ℕ) {a : ℕ} (p : a ≡ 48 + n % 10) where
         unfolding decimal decimal_up_to
         writes_five u k = record { room = omega arith; is = rw (le-ltb n 10 h, le-ltb (n / 10) 10 i, le-ltb (n / 10 / 10) 10 j, le-ltb (n / 10 / 10 / 10) 10 k, p, q, r, t, u) }
 
-pub ruleset number_laws = (digit_low, digit_high, digit_between, digit_told, digit_least, digit_is, number_empty, number_starts, number_ends, number_other, number_over, number_more, writes_one, writes_two, writes_three, writes_four, writes_five, rules)
+pub ruleset number_laws = (digit_low, digit_high, digit_between, digit_told, digit_least, digit_is, number_empty, number_starts, number_ends, number_other, writes_one, writes_two, writes_three, writes_four, writes_five, rules)

@@ -26,11 +26,18 @@ impl Classes {
         Classes { table: TABLE }
     }
 
+    // The table, for a function that takes any.
+    pub fn table(&self) -> &[u8; 256]
+        ensures { Classifies result.now }
+    {
+        &self.table
+    }
+
     // A number and no enum: document 01 names a table of numbers, in whose order one comparison tells a letter or digit (2), with the
     // hyphen (3), with the dot (4).
     pub fn class_of(&self, b: u8) -> u8
         ensures { result ≡ class_of b }
     {
-        self.table[b as usize]
+        self.table[usize::from(b)]
     }
 }

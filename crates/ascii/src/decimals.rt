@@ -10,26 +10,22 @@ pub fn read_number(s: &[u8]) -> Option<u16>
     if s.is_empty() {
         return None;
     }
-    let mut n: u32 = 0;
+    let mut n: u16 = 0;
     for b in s {
-        if crate::is_digit(*b) {
-            n = n * 10 + digit_value(*b);
-            if 65535 < n {
-                return None;
-            }
-        } else {
+        if !crate::is_digit(*b) {
             return None;
         }
+        n = n.checked_mul(10)?.checked_add(digit_value(*b))?;
     }
-    Some(n as u16)
+    Some(n)
 }
 
 // The value of a digit.
-fn digit_value(b: u8) -> u32
+fn digit_value(b: u8) -> u16
     requires { is_digit b ≡ true }
     ensures { DigitIs b result }
 {
-    (b - b'0') as u32
+    u16::from(b - b'0')
 }
 
 // The digits of a number, at the front of the array: there is no heap.
@@ -43,7 +39,8 @@ fn digit(n: u16) -> u8
     requires { n < 10 }
     ensures { result ≡ 48 + n }
 {
-    (b'0' as u16 + n) as u8
+    // a number below ten: `try_from` would need an answer for others
+    b'0' + n as u8
 }
 
 // The digits of n, without leading zeros.

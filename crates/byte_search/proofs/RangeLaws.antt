@@ -1,18 +1,22 @@
 -- The first byte of a range, by blocks of 64. Assumes nothing.
-use Rattle.std.specs.Prelude.{if◌then◌else◌}
-use mathlib.Core.Path.{◌≡◌, refl, ◌∙◌}
+use Rattle.std.specs.Prelude.{if◌then◌else◌, Option, None, Some}
+use mathlib.Core.Path.{◌≡◌, refl, sym, ap, ◌∙◌}
 use mathlib.Core.Bool.{Bool, true, false}
-use mathlib.Core.List.{[], ◌∷◌}
-use Prim.Native.Nat.{ℕ, zero, suc, ◌+◌, ◌-◌, ◌≤◌, ◌<◌, min}
+use mathlib.Core.List.{[], ◌∷◌, ◌++◌}
+use Prim.Native.Nat.{ℕ, zero, suc, ◌+◌, ◌-◌, ◌*◌, ◌^◌, ◌≤◌, ◌<◌, min}
 use native.Mathlib.Omega.{arith}
-use lib.ListN.{length, get_or, take, drop, length-drop}
-use lib.Seq.{drop-cons, drop-drop}
+use mir.Val.{Fits}
+use mir.Syntax.{w64}
+use lib.ListN.{length, get_or, take, drop, length-drop, length-append}
+use Rattle.std.proofs.lemmas.List.{get_or-take, length-take}
+use lib.Seq.{drop-cons, drop-drop, get_or-drop, take_all, take-append_seam, drop-append_seam}
 use lib.Dec.{ltb}
 use borrow.Author.Rules.{rules}
-use borrow.Author.Tests.{lt-ltb, le-ltb}
-use Rattle.ascii.specs.Ascii.{Bytes, take_while}
+use borrow.Author.Tests.{lt-ltb, le-ltb, ltb-true, ltb-false}
+use Rattle.ascii.specs.Ascii.{Bytes, ◌when◌, take_while}
+use Rattle.ascii.proofs.RunLaws.{run_past}
 use Rattle.ascii.proofs.Scan.{scan_end, scan_stop, scan_more}
-use Rattle.byte_search.specs.code.Ranges.{outside, block_end, place_in}
+use Rattle.byte_search.specs.code.Ranges.{outside, block_end, block_first, place_in}
 
 module _ (lo hi b : ℕ) where
   pub outside_below : b < lo → ltb b lo ≡ outside lo hi b
@@ -84,8 +88,16 @@ seen_more lo hi {w} {k} {r} {v} {x} b l m (unseen e) g f i j = go (outside lo hi
         goes = unfold take_while in (omega (arith, rw (f, n, u) at e))
 
 module _ {lo hi : ℕ} {s : Bytes} {from r k : ℕ} (B : Block lo hi s from r k) where
-  pub block_ends : 64 ≤ k → r ≡ block_end lo hi s from
+  block_ends : 64 ≤ k → r ≡ block_end lo hi s from
   block_ends h = seen_ends B.is (omega (arith, B.most))
+
+  pub block_some : 64 ≤ k → r < 64 → Some r ≡ block_first lo hi s from
+  unfolding block_first
+  block_some h l = rw (← block_ends h, lt-ltb r 64 l)
+
+  pub block_none : 64 ≤ k → 64 ≤ r → None ≡ block_first lo hi s from
+  unfolding block_first
+  block_none h l = rw (← block_ends h, le-ltb r 64 l)
 
   pub block_more : {x v : ℕ} → x ≡ min v r → v ≡ place_in lo hi k (get_or s (from + k) 0) → k < 64 → from + 64 ≤ length s → Block lo hi s from x (k + 1)
   block_more e f h l =
@@ -127,9 +139,6 @@ module _ {f : ℕ → Bool} {s : Bytes} {from i : ℕ} (E : SameEnd f s from i) 
   pub end_out : length s ≤ i → i ≡ from + length (take_while f (drop from s))
   end_out h = scan_end f s i h E.is
 
-  pub end_short : {r : ℕ} → r ≡ i + length (take_while f (drop i s)) → r ≡ from + length (take_while f (drop from s))
-  end_short e = e ∙ E.is
-
   module _ {r : Bool} (h : i < length s) (t : r ≡ f (get_or s i 0)) where
     pub end_found : r ≡ false → i ≡ from + length (take_while f (drop from s))
     end_found w = scan_stop f s i h t w E.is
@@ -137,32 +146,86 @@ module _ {f : ℕ → Bool} {s : Bytes} {from i : ℕ} (E : SameEnd f s from i) 
     pub end_next : r ≡ true → SameEnd f s from (i + 1)
     end_next w = record { is = scan_more f s i h t w E.is }
 
-module _ (lo hi : ℕ) (s : Bytes) {from i r m : ℕ} (e : r ≡ block_end lo hi s i) (g : m ≡ r) (h : 64 ≤ length s - i) (E : SameEnd (outside lo hi) s from i) where
-  pub end_here : m < 64 → i + m ≡ from + length (take_while (outside lo hi) (drop from s))
+-- ---- block after block
+
+-- the blocks from i on are those that are left, and the scan at from ends where the one at i ends
+pub record Blocks (f : ℕ → Bool) (s : Bytes) (from i size : ℕ) (rest : Bytes) : Type 0 where
+  pub even : size ≡ 64
+  pub inside : i ≤ length s
+  pub left : rest ≡ drop i s
+  pub same : SameEnd f s from i
+
+-- a block stands at i, and the blocks behind it
+pub record Stands (s : Bytes) (i size : ℕ) (block rest : Bytes) : Type 0 where
+  pub even : size ≡ 64
+  pub room : i + 64 ≤ length s
+  pub is : take 64 (drop i s) ≡ block
+  pub next : rest ≡ drop (i + 64) s
+
+module _ {f : ℕ → Bool} {s : Bytes} {from i n : ℕ} {l : Bytes} (B : Blocks f s from i n l) where
+  -- by a step of the library's iterator
+  pub block_at : {R : Type 0} {z : ℕ} {block rest : Bytes} → (z ≡ n) × ((l ≡ block ++ rest) × (length block ≡ n)) × R → Stands s i z block rest
+  block_at {block = block} {rest = rest} (y, (e, g), q) =
+      let a : drop i s ≡ block ++ rest = sym B.left ∙ e in
+      let b : length block ≡ 64 = g ∙ B.even in
+      record {
+        even = y ∙ B.even;
+        room = omega (arith, b, ap length a, length-append block rest, length-drop i s);
+        is = rw (a, ← b) (take-append_seam block rest);
+        next = sym (sym (drop-drop 64 i s) ∙ rw (a, ← b) (drop-append_seam block rest));
+      }
+
+  module _ {z : ℕ} {block rest : Bytes} (T : Stands s i z block rest) where
+    first_byte : get_or block 0 0 ≡ get_or s i 0
+    first_byte =
+        let z : i + 0 ≡ i = omega arith in
+        ap (λ (x : Bytes). get_or x 0 0) (sym T.is) ∙ get_or-take 64 (drop i s) 0 0 (omega arith) ∙ get_or-drop i s 0 0 ∙ rw z
+
+    pub blocks_first : {r : Bool} → r ≡ f (get_or block 0 0) → r ≡ false → i ≡ from + length (take_while f (drop from s))
+    blocks_first t w = end_found B.same (omega (arith, T.room)) (t ∙ ap f first_byte) w
+
+-- a place in a block, or none
+found : (r : ℕ) {m : ℕ} → r when ltb r 64 ≡ Some m → (m ≡ r) × (r < 64)
+found r {m} e = go (ltb r 64) refl e
+  where
+    go : (u : Bool) → ltb r 64 ≡ u → r when u ≡ Some m → (m ≡ r) × (r < 64)
+    go true u e = (cc, ltb-true r 64 u)
+    go false u e = let z : ◌≡◌ {A = ℕ} 0 1 = cc in absurd (omega arith)
+
+unfound : (r : ℕ) → ((m : ℕ) → r when ltb r 64 ≡ Some m → ⊥) → 64 ≤ r
+unfound r n = go (ltb r 64) refl n
+  where
+    go : (u : Bool) → ltb r 64 ≡ u → ((m : ℕ) → r when u ≡ Some m → ⊥) → 64 ≤ r
+    go true u n = absurd (n r refl)
+    go false u n = ltb-false r 64 u
+
+module _ (lo hi : ℕ) {s : Bytes} {from i n z : ℕ} {l block rest : Bytes} (B : Blocks (outside lo hi) s from i n l) (T : Stands s i z block rest) {o : Option ℕ} (t : o ≡ block_first lo hi block 0) where
+  room : 64 ≤ length (drop i s)
+  room = omega (arith, T.room, length-drop i s)
+
+  ends_here : block_end lo hi block 0 ≡ length (take_while (outside lo hi) (take 64 (drop i s)))
   unfolding block_end
-  end_here k = omega (arith, e, g, E.is, while_short (outside lo hi) 64 (drop i s) (omega (arith, e, g)) (omega (arith, length-drop i s)))
+  ends_here = ap (λ (x : Bytes). length (take_while (outside lo hi) (take 64 x))) (sym T.is) ∙ rw (take_all 64 (take 64 (drop i s)) (omega (arith, length-take 64 (drop i s))))
 
-  pub end_more : 64 ≤ m → SameEnd (outside lo hi) s from (i + 64)
-  unfolding block_end
-  end_more k =
-      let w = while_long (outside lo hi) 64 (drop i s) (omega (arith, e, g)) (omega (arith, length-drop i s)) in
-      record { is = omega (arith, E.is, rw (drop-drop 64 i s) at w) }
+  pub blocks_here : {m : ℕ} → o ≡ Some m → i + m ≡ from + length (take_while (outside lo hi) (drop from s))
+  unfolding block_first
+  blocks_here k =
+      let p = found (block_end lo hi block 0) (sym t ∙ k) in
+      omega (arith, p.0, ends_here, B.same.is, while_short (outside lo hi) 64 (drop i s) (omega (arith, p.1, ends_here)) room)
 
-pub ruleset block_laws = (block_starts, block_ends, block_more, rules)
+  pub blocks_fit : {m : ℕ} → o ≡ Some m → length s * 1 < 2 ^ 63 → Fits w64 (i + m)
+  unfolding block_first
+  blocks_fit k h = let p = found (block_end lo hi block 0) (sym t ∙ k) in record { fits = omega (arith, p.0, p.1, T.room) }
 
-pub ruleset range_laws = (
-  outside_below,
-  outside_above,
-  place_none,
-  place_here,
-  end_starts,
-  end_out,
-  end_short,
-  end_found,
-  end_here,
-  end_more,
-  rules,
-)
+  pub blocks_more : ((m : ℕ) → o ≡ Some m → ⊥) → Blocks (outside lo hi) s from (i + 64) z rest
+  unfolding block_first
+  blocks_more k =
+      let p = unfound (block_end lo hi block 0) (λ m x. k m (t ∙ x)) in
+      let q = while_long (outside lo hi) 64 (drop i s) (omega (arith, p, ends_here)) room in
+      record { even = T.even; inside = T.room; left = T.next; same = record { is = omega (arith, B.same.is, rw (drop-drop 64 i s) at q) } }
 
--- for the return inside a block
-pub ruleset here_laws = (end_here, rules)
+pub ruleset block_laws = (block_starts, block_some, block_none, block_more, rules)
+
+pub ruleset range_laws = (outside_below, outside_above, place_none, place_here, rules)
+
+pub ruleset blocks_laws = (run_past, blocks_first, blocks_here, blocks_fit, blocks_more, rules)

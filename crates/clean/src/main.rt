@@ -3,7 +3,7 @@
 // A write that fails ends it with that error.
 #![tactic(auto)]
 
-ghost use Rattle.std.specs.Prelude.{◌≡◌, ◌≤◌, length, take};
+ghost use Rattle.std.specs.Prelude.{◌≤◌, length};
 
 use full_reads::read_full;
 use refusals::Refusal;
@@ -13,23 +13,22 @@ use trusted_list::Version;
 
 // The bytes of a file, as many as there is room for; none where it can't be opened or read. One byte of room more than a bound
 // shows that the file is longer.
-fn read_file(rt: &impl Files, name: &str, room: &mut [u8]) -> usize
-    ensures bound { result ≤ length room.new }
-    ensures first { result ≡ length (take result room.new) }
+fn read_file<'a>(rt: &impl Files, name: &str, room: &'a mut [u8]) -> &'a [u8]
+    ensures bound { length result.now ≤ length room.old }
 {
     let Ok(mut file) = fs::open(rt, name) else {
-        return 0;
+        return &[];
     };
-    read_full(&mut file, room).unwrap_or(0)
+    let n = read_full(&mut file, room).unwrap_or(0);
+    &room[..n]
 }
 
 fn print_refusal(rt: &impl Print, x: Refusal) -> io::Result<()> {
     println!(rt; "refused {}", u16::from(x))
 }
 
-// The first n bytes of the output, which the array holds: there is no heap.
-fn print_list(rt: &impl Print, out: &[u8], n: usize) -> io::Result<()> {
-    rt.write_all(ascii::prefix(out, n))?;
+fn print_list(rt: &impl Print, list: &[u8]) -> io::Result<()> {
+    rt.write_all(list)?;
     rt.write_all(b"\n")
 }
 
@@ -38,22 +37,22 @@ fn print_cleaned(rt: &impl Print, appid: &[u8], body: &[u8], table: &[u8]) -> io
     let wanted = Version { major: 1, minor: 0 };
     match cleaning::clean(appid, wanted, body, table, &mut out) {
         Err(x) => print_refusal(rt, x),
-        Ok(n) => print_list(rt, &out, n),
+        Ok(n) => print_list(rt, &out[..n]),
     }
 }
 
 fn clean_files(rt: &(impl Files + Print)) -> io::Result<()> {
-    let mut appid = [0u8; 2049];
-    let a = read_file(rt, "appid", &mut appid);
-    let mut body = [0u8; 65537];
-    let b = read_file(rt, "body", &mut body);
-    let mut table = [0u8; 65537];
-    let t = read_file(rt, "table", &mut table);
-    if 65536 < t {
+    let mut appid_room = [0u8; 2049];
+    let appid = read_file(rt, "appid", &mut appid_room);
+    let mut body_room = [0u8; 65537];
+    let body = read_file(rt, "body", &mut body_room);
+    let mut table_room = [0u8; 65537];
+    let table = read_file(rt, "table", &mut table_room);
+    if 65536 < table.len() {
         // no rule, so a bad table
-        return print_cleaned(rt, &appid[0..a], &body[0..b], b"!");
+        return print_cleaned(rt, appid, body, b"!");
     }
-    print_cleaned(rt, &appid[0..a], &body[0..b], &table[0..t])
+    print_cleaned(rt, appid, body, table)
 }
 
 fn main(rt: HostRuntime) -> io::Result<()> {

@@ -1,21 +1,18 @@
 -- The sets of laws that answer needs.
 use borrow.Author.Rules.{rules}
-use Rattle.entries.proofs.Walks.{less_on, held_short}
-use Rattle.cleaning.proofs.SizeLaws.{fits_first, fits_later, id_first, id_later, size_starts, size_over, size_less, size_skip, size_fits, size_keep}
-use Rattle.cleaning.proofs.WriteLaws.{opening_first, opening_later, id_wrote, write_starts, write_over, write_less, write_pass, write_size, write_add}
+use Rattle.cleaning.proofs.SizeLaws.{fits_first, fits_later, id_first, id_later, size_fits, size_held}
+use Rattle.cleaning.proofs.WriteLaws.{opening_first, opening_later, id_wrote, write_pass, write_add}
 use Rattle.cleaning.proofs.PrepareLaws.{prepare_bad, prepare_foreign, prepare_selected, prepared_as}
 use Rattle.cleaning.proofs.ListLaws.{digits_inside, digits_length, digits_few, digits_wrote, head_wrote, room_body, room_told, sum_first, sum_second, sum_third, list_full, head_room, ids_room, list_done, clean_refused, clean_listed}
 
 pub ruleset laws = (fits_first, fits_later, id_first, id_later, opening_first, opening_later, id_wrote, rules)
 
-pub ruleset sizing = (size_starts, size_over, size_less, size_skip, held_short, size_fits, size_keep, rules)
+pub ruleset size_asks = (size_fits, size_held, rules)
 
 -- the turns of write_ids and the last return of write_list, each alone: a search that fails then tries every way
 pub ruleset write_turn = (write_pass, write_add, rules)
 
 pub ruleset list_last = (list_done)
-
-pub ruleset write_loop = (write_starts, write_over, write_less, less_on, write_size, rules)
 
 pub ruleset preparing = (prepare_bad, prepare_foreign, prepare_selected, rules)
 

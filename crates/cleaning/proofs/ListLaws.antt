@@ -14,7 +14,8 @@ use borrow.Author.Tests.{le-leb, leb-true, leb-false, lt-ltb, le-ltb}
 use Rattle.ascii.specs.Ascii.{Bytes, text, decimal}
 use Rattle.ascii.specs.code.Numbers.{Writes}
 use Rattle.ascii.specs.declared.decimals.Decimal.{Decimal}
-use Rattle.normal_forms.specs.code.Writing.{Wrote}
+use Rattle.normal_forms.specs.code.Writing.{Wrote, Puts}
+use Rattle.normal_forms.specs.declared.writer.Writer.{Writer}
 use Rattle.normal_forms.proofs.Writings.{wrote_is, wrote_place, wrote_length, wrote_then}
 use Rattle.refusals.specs.declared.Refusal.{Refusal}
 use Rattle.refusals.specs.declared.Refusal.TheVariants.{Full}
@@ -55,16 +56,16 @@ head_length : (major minor : ℕ) → length (list_head major minor) ≡ 56 + le
 unfolding list_head
 head_length major minor = simp length-append (omega arith)
 
-pub head_wrote : (major minor : ℕ) {o o₁ o₂ o₃ o₄ o₅ : Bytes} {a b c d e : ℕ} → length (list_head major minor) ≤ length o
-    → Wrote (text "{\"trustedFacets\":[{\"version\":{\"major\":") 0 o o₁ a → Wrote (decimal major) a o₁ o₂ b → Wrote (text ",\"minor\":") b o₂ o₃ c
-    → Wrote (decimal minor) c o₃ o₄ d → Wrote (text "},\"ids\":[") d o₄ o₅ e → Wrote (list_head major minor) 0 o o₅ e
+pub head_wrote : (major minor : ℕ) {at : ℕ} {o o₁ o₂ o₃ o₄ o₅ : Bytes} {a b c d e : ℕ} → at + length (list_head major minor) ≤ length o
+    → Wrote (text "{\"trustedFacets\":[{\"version\":{\"major\":") at o o₁ a → Wrote (decimal major) a o₁ o₂ b → Wrote (text ",\"minor\":") b o₂ o₃ c
+    → Wrote (decimal minor) c o₃ o₄ d → Wrote (text "},\"ids\":[") d o₄ o₅ e → Wrote (list_head major minor) at o o₅ e
 unfolding list_head
-head_wrote major minor {o} h A B C D E =
+head_wrote major minor {at} {o} h A B C D E =
     let x = decimal major in
     let y = decimal minor in
     let p = text "{\"trustedFacets\":[{\"version\":{\"major\":" in
     let q = text ",\"minor\":" in
-    let l : 56 + length x + length y ≤ length o = omega (arith, head_length major minor) in
+    let l : at + 56 + length x + length y ≤ length o = omega (arith, head_length major minor) in
     let i : length (p ++ x) ≡ 38 + length x = length-append p x in
     let j : length (p ++ x ++ q) ≡ 47 + length x = omega (arith, length-append (p ++ x) q) in
     let k : length (p ++ x ++ q ++ y) ≡ 47 + length x + length y = omega (arith, length-append (p ++ x ++ q) y) in
@@ -126,30 +127,34 @@ module _ {major minor : ℕ} {l : Selected} (L : ListedAs major minor l) where
       fits : length (list_of major minor l) ≤ length before
       fits = leb-true (length (list_of major minor l)) (length before) (sym e ∙ h)
 
-      pub head_room : length (list_head major minor) ≤ length before
+      pub head_room : 0 + length (list_head major minor) ≤ length before
       head_room = omega (arith, fits, list_length)
 
-      module _ {o₁ : Bytes} {a : ℕ} (W : Wrote (list_head major minor) 0 before o₁ a) where
-        pub ids_room : a + length (ids_text true (names_of l)) ≤ length o₁
-        ids_room = omega (arith, fits, list_length, wrote_place W (omega (arith, head_room)), wrote_length W (omega (arith, head_room)))
+      module _ {w x : Writer} (W : Puts (list_head major minor) w x) (f : w.at ≡ 0) (g : w.out.now ≡ before) where
+        head : Wrote (list_head major minor) 0 before x.out.now x.at
+        head = rw (f, g) at W.wrote
 
-        pub list_done : {o₂ o₃ : Bytes} {b n : ℕ} → Wrote (ids_text true (names_of l)) a o₁ o₂ b → Wrote (text "]}]}") b o₂ o₃ n
-            → Cleans before o₃ (fitting (length before) (list_of major minor l)) (Ok n)
-        list_done {o₂} {o₃} {b} {n} U X = rw (go fits) (writes place is)
+        pub ids_room : x.at + length (ids_text true (names_of l)) ≤ length x.out.now
+        ids_room = omega (arith, fits, list_length, wrote_place head (omega (arith, head_room)), wrote_length head (omega (arith, head_room)))
+
+        -- the output is p where it is the one that was lent
+        pub list_done : {y z : Writer} → Puts (ids_text true (names_of l)) x y → Puts (text "]}]}") y z → {p : Bytes} → (w.out.ghost_name ≡ z.out.ghost_name → p ≡ z.out.now)
+            → Cleans before p (fitting (length before) (list_of major minor l)) (Ok z.at)
+        list_done {y} {z} U X o = rw (go fits) (writes place (o (sym (X.same ∙ U.same ∙ W.same)) ∙ is))
           where
             go : length (list_of major minor l) ≤ length before → fitting (length before) (list_of major minor l) ≡ cleaned (list_of major minor l)
             go k = unfold fitting in (rw (le-ltb (length before) (length (list_of major minor l)) k))
 
-            whole : Wrote (list_of major minor l) 0 before o₃ n
-            whole = rw parts (wrote_then (wrote_then W U (omega (arith, fits, list_length))) X (omega (arith, fits, list_length, length-append (list_head major minor) (ids_text true (names_of l)))))
+            whole : Wrote (list_of major minor l) 0 before z.out.now z.at
+            whole = rw parts (wrote_then (wrote_then head U.wrote (omega (arith, fits, list_length))) X.wrote (omega (arith, fits, list_length, length-append (list_head major minor) (ids_text true (names_of l)))))
 
-            place : n ≡ length (list_of major minor l)
+            place : z.at ≡ length (list_of major minor l)
             place = omega (arith, wrote_place whole (omega (arith, fits)))
 
-            is : o₃ ≡ list_of major minor l ++ drop (length (list_of major minor l)) before
+            is : z.out.now ≡ list_of major minor l ++ drop (length (list_of major minor l)) before
             is =
-                let z : 0 + length (list_of major minor l) ≡ length (list_of major minor l) = omega arith in
-                wrote_is whole (omega (arith, fits)) ∙ ap (λ (k : ℕ). list_of major minor l ++ drop k before) z
+                let j : 0 + length (list_of major minor l) ≡ length (list_of major minor l) = omega arith in
+                wrote_is whole (omega (arith, fits)) ∙ ap (λ (k : ℕ). list_of major minor l ++ drop k before) j
 
 -- ---- the whole call
 

@@ -1,9 +1,9 @@
 -- The length of the ids as they are written, entry after entry.
-use Rattle.std.specs.Prelude.{if◌then◌else◌, Option, None, Some, unwrap_or}
+use Rattle.std.specs.Prelude.{if◌then◌else◌, None, Some, unwrap_or}
 use mathlib.Core.Path.{◌≡◌, refl, sym, ap, ◌∙◌}
 use mathlib.Core.Bool.{Bool, true, false}
 use mathlib.Core.List.{List, [], ◌∷◌, ◌++◌, map}
-use Prim.Native.Nat.{ℕ, ◌+◌, ◌*◌, ◌≤◌, ◌<◌}
+use Prim.Native.Nat.{ℕ, ◌+◌, ◌*◌, ◌≤◌}
 use native.Mathlib.Omega.{arith}
 use mir.Syntax.{w64}
 use mir.Val.{Fits}
@@ -14,11 +14,12 @@ use Rattle.ascii.specs.Ascii.{Bytes, text, prefixed, join_with}
 use Rattle.origin.specs.Origin.{normal_form}
 use Rattle.normal_forms.proofs.NormalForms.{normal_short}
 use Rattle.entries.specs.code.Selecting.{listed}
-use Rattle.entries.specs.code.Walking.{to_come, held_of, Walk, Advances}
 use Rattle.entries.specs.declared.Cause.{Cause}
 use Rattle.entries.specs.declared.selected.Selected.{Selected}
-use Rattle.entries.specs.declared.walk.Entries.{Entries}
-use Rattle.entries.proofs.Walks.{kept_none, list_short, all_gone, Turn, turn, turn_less, held_short, kept_held, kept_first, dropped_first}
+use Rattle.json_text.specs.code.Places.{fit}
+use Rattle.entries.specs.Causes.{cause}
+use Rattle.entries.proofs.FoldLaws.{by_cause}
+use Rattle.entries.proofs.Walks.{kept_none, kept_more, kept_less, list_short, held_kept, fit_short}
 use Rattle.cleaning.specs.Clean.{quoted}
 use Rattle.cleaning.specs.code.Meaning.{names, names_of, opening, id_text, ids_text}
 
@@ -43,14 +44,14 @@ id_length true x = omega (arith, length-append x (text "\""))
 id_length false x = omega (arith, length-append x (text "\""))
 
 -- the normal forms, over one entry
-module _ {l : Selected} {w v : Entries} {c : Option Cause} (T : Turn l w v c) where
-  pub names_more : c ≡ None → names l.appid.now l.table.now (to_come w) ≡ normal_form T.entry ∷ names l.appid.now l.table.now (to_come v)
+module _ (appid table e : Bytes) (es : List Bytes) where
+  pub names_more : cause appid table e ≡ None → names appid table (e ∷ es) ≡ normal_form e ∷ names appid table es
   unfolding names
-  names_more g = ap (map normal_form) (kept_first T g)
+  names_more g = ap (map normal_form) (kept_more appid table e es g)
 
-  pub names_less : {x : Cause} → c ≡ Some x → names l.appid.now l.table.now (to_come w) ≡ names l.appid.now l.table.now (to_come v)
+  pub names_less : {x : Cause} → cause appid table e ≡ Some x → names appid table (e ∷ es) ≡ names appid table es
   unfolding names
-  names_less g = ap (map normal_form) (dropped_first T g)
+  names_less g = ap (map normal_form) (kept_less appid table e es g)
 
 pub names_none : (appid table : Bytes) → names appid table [] ≡ []
 unfolding names
@@ -79,61 +80,56 @@ module _ (first : Bool) (e : Bytes) (h : length e ≤ 512) {n : ℕ} (l : n ≡ 
   pub id_later : first ≡ false → n + 3 ≡ length (id_text first (normal_form e))
   id_later t = rw (id_length first (normal_form e), t) (omega arith)
 
--- ---- the loop
+-- ---- entry after entry
 
--- the walk goes on, after ids of n bytes
-pub record Sizes (l : Selected) (goal : ℕ) (w : Entries) (n : ℕ) : Type 0 where
-  pub list_is : w.list.now ≡ l
-  pub small : n + 515 * length (to_come w) ≤ 515 * 65536
-  pub is : n + length (ids_text (eqb n 0) (names l.appid.now l.table.now (to_come w))) ≡ goal
+-- ids of n bytes stand before these entries
+pub record Sizes (l : Selected) (es : List Bytes) (n : ℕ) : Type 0 where
+  pub small : n + 515 * length es ≤ 515 * 65536
+  pub is : n + length (ids_text (eqb n 0) (names l.appid.now l.table.now es)) ≡ length (ids_text true (names_of l))
 
-pub size_starts : {l : Selected} {w : Entries} → Walk l (listed l) w → Sizes l (length (ids_text true (names_of l))) w 0
-size_starts {l} W = record {
-  list_is = W.list_is;
-  small = omega (arith, ap length W.coming_is, list_short l);
-  is = omega (arith, ap (λ (es : List Bytes). length (ids_text true (names l.appid.now l.table.now es))) W.coming_is);
-}
+pub size_starts : (l : Selected) → Sizes l (listed l) 0
+size_starts l = record { small = omega (arith, list_short l); is = omega arith }
 
-module _ {l : Selected} {goal : ℕ} {w : Entries} {n : ℕ} (S : Sizes l goal w n) {v : Entries} {r : Option (Option Cause)} (A : Advances w v r) where
-  pub size_over : r ≡ None → n ≡ goal
-  size_over h =
-      let x = rw (all_gone A h, names_none l.appid.now l.table.now, ids_none (eqb n 0)) at S.is in
-      omega arith
+pub size_over : {l : Selected} {n : ℕ} → Sizes l [] n → n ≡ length (ids_text true (names_of l))
+size_over {l} {n} S =
+    let x = rw (names_none l.appid.now l.table.now, ids_none (eqb n 0)) at S.is in
+    omega arith
 
-  module _ {c : Option Cause} (h : r ≡ Some c) where
-    T : Turn l w v c
-    T = turn A S.list_is h
+module _ {l : Selected} {e : Bytes} {es : List Bytes} {n : ℕ} (S : Sizes l (e ∷ es) n) where
+  skip : {x : Cause} → cause l.appid.now l.table.now e ≡ Some x → Sizes l es n
+  skip g = record {
+    small = omega (arith, S.small);
+    is = ap (λ (es : List Bytes). n + length (ids_text (eqb n 0) es)) (sym (names_less l.appid.now l.table.now e es g)) ∙ S.is;
+  }
 
-    pub size_less : length (to_come v) < length (to_come w)
-    size_less = turn_less T
+  pub size_held : {p : Bytes} → p ≡ unwrap_or (fit e) [] → length p ≤ 512
+  size_held E = fit_short l.appid.now l.table.now e E
 
-    pub size_skip : {x : Cause} → c ≡ Some x → Sizes l goal v n
-    size_skip g = record {
-      list_is = T.list_is;
-      small = omega (arith, S.small, size_less);
-      is = ap (λ (es : List Bytes). n + length (ids_text (eqb n 0) es)) (sym (names_less T g)) ∙ S.is;
-    }
+  module _ {m : ℕ} {p : Bytes} (M : m ≡ length (id_text (eqb n 0) (normal_form p))) (E : p ≡ unwrap_or (fit e) []) where
+    few : m ≤ 515
+    few = omega (arith, id_short (eqb n 0) p (size_held E))
 
-    module _ {p : Bytes} (E : p ≡ unwrap_or (held_of v) []) (g : c ≡ None) {m : ℕ} (M : m ≡ length (id_text (eqb n 0) (normal_form p))) where
-      few : m ≤ 515
-      few = omega (arith, id_short (eqb n 0) p (held_short v E))
+    pub size_fits : Fits w64 (n + m)
+    size_fits = record { fits = omega (arith, S.small, few) }
 
-      pub size_fits : Fits w64 (n + m)
-      size_fits = record { fits = omega (arith, S.small, size_less, few) }
+    keep : cause l.appid.now l.table.now e ≡ None → Sizes l es (n + m)
+    keep g = record { small = omega (arith, S.small, few); is = is }
+      where
+        t : Bytes
+        t = id_text (eqb n 0) (normal_form e)
 
-      pub size_keep : Sizes l goal v (n + m)
-      size_keep = record { list_is = T.list_is; small = omega (arith, S.small, size_less, few); is = is }
-        where
-          t : Bytes
-          t = id_text (eqb n 0) (normal_form T.entry)
+        from_here : n + length (t ++ ids_text false (names l.appid.now l.table.now es)) ≡ length (ids_text true (names_of l))
+        from_here = ap (λ (x : Bytes). n + length x) (sym (ids_more (eqb n 0) (normal_form e) (names l.appid.now l.table.now es)) ∙ ap (ids_text (eqb n 0)) (sym (names_more l.appid.now l.table.now e es g))) ∙ S.is
 
-          from_here : n + length (t ++ ids_text false (names l.appid.now l.table.now (to_come v))) ≡ goal
-          from_here = ap (λ (x : Bytes). n + length x) (sym (ids_more (eqb n 0) (normal_form T.entry) (names l.appid.now l.table.now (to_come v))) ∙ ap (ids_text (eqb n 0)) (sym (names_more T g))) ∙ S.is
+        is_long : m ≡ length t
+        is_long = M ∙ ap (λ (x : Bytes). length (id_text (eqb n 0) (normal_form x))) (held_kept l.appid.now l.table.now e E g)
 
-          is_long : m ≡ length t
-          is_long = M ∙ ap (λ (x : Bytes). length (id_text (eqb n 0) (normal_form x))) (kept_held T g E)
+        is : n + m + length (ids_text (eqb (n + m) 0) (names l.appid.now l.table.now es)) ≡ length (ids_text true (names_of l))
+        is =
+            let z : eqb (n + m) 0 ≡ false = ne_eqb (n + m) 0 (λ w. omega (arith, is_long, id_some (eqb n 0) (normal_form e))) in
+            rw z (omega (arith, from_here, is_long, length-append t (ids_text false (names l.appid.now l.table.now es))))
 
-          is : n + m + length (ids_text (eqb (n + m) 0) (names l.appid.now l.table.now (to_come v))) ≡ goal
-          is =
-              let z : eqb (n + m) 0 ≡ false = ne_eqb (n + m) 0 (λ w. omega (arith, is_long, id_some (eqb n 0) (normal_form T.entry))) in
-              rw z (omega (arith, from_here, is_long, length-append t (ids_text false (names l.appid.now l.table.now (to_come v)))))
+  -- r is the length with this entry
+  pub size_turn : {r : ℕ} {p : Bytes} → p ≡ unwrap_or (fit e) []
+      → (cause l.appid.now l.table.now e ≡ None → (m : ℕ) × (m ≡ length (id_text (eqb n 0) (normal_form p))) × (r ≡ n + m)) → ((x : Cause) → cause l.appid.now l.table.now e ≡ Some x → r ≡ n) → Sizes l es r
+  size_turn E k d = by_cause (cause l.appid.now l.table.now e) (λ h. rw (k h).2 (keep (k h).1 E h)) (λ x h. rw (d x h) (skip h))

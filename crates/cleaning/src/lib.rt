@@ -3,12 +3,13 @@
 
 ghost use Rattle.std.specs.Prelude.{◌≡◌, ◌+◌, ◌≤◌, length, true, leb};
 ghost use Rattle.origin.specs.Origin.{normal_form};
-ghost use Rattle.normal_forms.specs.code.Writing.{Wrote};
+ghost use Rattle.normal_forms.specs.code.Writing.{Puts};
 ghost use Rattle.ascii.specs.Ascii.{decimal};
 ghost use Rattle.cleaning.specs.Clean.{fitting, clean};
-ghost use Rattle.cleaning.specs.code.Meaning.{ListedAs, Prepares, names_of, list_of, opening, id_text, ids_text, IdWrote, list_head, Cleans};
+ghost use Rattle.cleaning.specs.code.Meaning.{ListedAs, Prepares, names_of, list_of, opening, id_text, ids_text, IdPuts, list_head, Cleans};
 
 use entries::Selected;
+use normal_forms::Writer;
 use refusals::Refusal;
 use trusted_list::Version;
 
@@ -47,50 +48,48 @@ fn id_length(first: bool, entry: &[u8]) -> usize
 fn ids_length(list: &Selected) -> usize
     ensures { result ≡ length (ids_text true (names_of list.now)) }
 {
-    let mut entries = list.entries();
-    let mut n = 0;
-    while let Some(cause) = entries.advance() {
-        if cause.is_none() {
-            n += id_length(n == 0, entries.held());
-        }
-    }
-    n
+    let mut add = |n, cause, entry: &[u8]| match cause {
+        None => n + id_length(n == 0, entry),
+        Some(_) => n,
+    };
+    list.fold(0, &mut add)
 }
 
 // ---- the bytes of the ids
 
 // What stands before an id.
-fn write_opening(first: bool, out: &mut [u8], at: usize) -> usize
-    ensures { Wrote (opening first) at out.old out.new result }
+fn write_opening(first: bool, to: &mut Writer)
+    ensures { Puts (opening first) to.old to.new }
 {
     if first {
-        return normal_forms::write_bytes(b"\"", out, at);
+        to.write(b"\"");
+        return;
     }
-    normal_forms::write_bytes(b",\"", out, at)
+    to.write(b",\"");
 }
 
 // The id of an entry.
-fn write_id(first: bool, entry: &[u8], out: &mut [u8], at: usize) -> usize
-    ensures { IdWrote first entry.now at out.old out.new result }
+fn write_id(first: bool, entry: &[u8], to: &mut Writer)
+    ensures { IdPuts first entry.now to.old to.new }
 {
-    let a = write_opening(first, out, at);
-    let b = normal_forms::write_normal(entry, out, a);
-    normal_forms::write_bytes(b"\"", out, b)
+    write_opening(first, to);
+    to.write_normal(entry);
+    to.write(b"\"");
 }
 
-// The ids, from a place of the output on.
-fn write_ids(list: &Selected, out: &mut [u8], begin: usize) -> usize
-    requires { begin + length (ids_text true (names_of list.now)) ≤ length out.old }
-    ensures { Wrote (ids_text true (names_of list.now)) begin out.old out.new result }
+// The ids.
+fn write_ids(list: &Selected, to: &mut Writer)
+    requires { to.old.at + length (ids_text true (names_of list.now)) ≤ length to.old.out.now }
+    ensures { Puts (ids_text true (names_of list.now)) to.old to.new }
 {
-    let mut entries = list.entries();
-    let mut to = begin;
-    while let Some(cause) = entries.advance() {
-        if cause.is_none() {
-            to = write_id(to == begin, entries.held(), out, to);
+    let mut write = |first, cause, entry: &[u8]| match cause {
+        None => {
+            write_id(first, entry, to);
+            false
         }
-    }
-    to
+        Some(_) => first,
+    };
+    list.fold(true, &mut write);
 }
 
 // ---- the whole list
@@ -117,26 +116,26 @@ fn has_room(list: &Selected, wanted: Version, room: usize) -> bool
     n + a + b + 60 <= room
 }
 
-// A number, written as by write_bytes.
-fn write_decimal(n: u16, out: &mut [u8], at: usize) -> usize
-    ensures { Wrote (decimal n) at out.old out.new result }
+// A number.
+fn write_decimal(n: u16, to: &mut Writer)
+    ensures { Puts (decimal n) to.old to.new }
 {
     let d = ascii::decimals::write_number(n);
     let k = d.len;
     let digits = d.digits;
-    normal_forms::write_bytes(&digits[0..k], out, at)
+    to.write(&digits[0..k]);
 }
 
 // What stands before the ids.
-fn write_head(wanted: Version, out: &mut [u8]) -> usize
-    requires { length (list_head wanted.major wanted.minor) ≤ length out.old }
-    ensures { Wrote (list_head wanted.major wanted.minor) 0 out.old out.new result }
+fn write_head(wanted: Version, to: &mut Writer)
+    requires { to.old.at + length (list_head wanted.major wanted.minor) ≤ length to.old.out.now }
+    ensures { Puts (list_head wanted.major wanted.minor) to.old to.new }
 {
-    let a = normal_forms::write_bytes(b"{\"trustedFacets\":[{\"version\":{\"major\":", out, 0);
-    let b = write_decimal(wanted.major, out, a);
-    let c = normal_forms::write_bytes(b",\"minor\":", out, b);
-    let d = write_decimal(wanted.minor, out, c);
-    normal_forms::write_bytes(b"},\"ids\":[", out, d)
+    to.write(b"{\"trustedFacets\":[{\"version\":{\"major\":");
+    write_decimal(wanted.major, to);
+    to.write(b",\"minor\":");
+    write_decimal(wanted.minor, to);
+    to.write(b"},\"ids\":[");
 }
 
 // Refusal 15 before any byte is written; or the list, and its length.
@@ -144,12 +143,12 @@ fn write_list(list: &Selected, wanted: Version, out: &mut [u8]) -> Result<usize,
     requires { ListedAs wanted.major wanted.minor list.now }
     ensures { Cleans out.old out.new (fitting (length out.old) (list_of wanted.major wanted.minor list.now)) result }
 {
-    let room = out.len();
-    if has_room(list, wanted, room) {
-        let a = write_head(wanted, out);
-        let b = write_ids(list, out, a);
-        let n = normal_forms::write_bytes(b"]}]}", out, b);
-        return Ok(n);
+    if has_room(list, wanted, out.len()) {
+        let mut to = Writer { out, at: 0 };
+        write_head(wanted, &mut to);
+        write_ids(list, &mut to);
+        to.write(b"]}]}");
+        return Ok(to.at);
     }
     Err(Refusal::Full)
 }

@@ -46,8 +46,8 @@ impl From<Answer> for u16 {
 impl From<Refusal> for Answer {
     ghost from_gives = { λ x a. a ≡ Refused x };
 
-    fn from(x: Refusal) -> Answer {
-        Answer::Refused(x)
+    fn from(refusal: Refusal) -> Answer {
+        Answer::Refused(refusal)
     }
 }
 
@@ -72,6 +72,7 @@ pub fn before_list<'a>(
         return Err(Answer::from(Refusal::Stranger));
     }
     let Some(url) = entries::read_appid(appid)? else {
+        // of `is_empty` the proof did not close, at this answer
         if appid.len() == 0 {
             return Err(Answer::Rule2);
         }
@@ -95,6 +96,7 @@ pub fn before_list<'a>(
 fn first_match(caller: &[u8], list: &Selected) -> Option<usize>
     ensures { result ≡ first_match caller.now (kept_of list.now) }
 {
+    // no `fold`: a closure would have to say with each answer whether the walk goes on
     let mut entries = list.entries();
     let mut n = 0;
     while let Some(cause) = entries.advance() {
@@ -131,8 +133,8 @@ fn by_list(
 
 // ---- the decision
 
-// Caller, AppID, version, body and table are arguments, as document 01's decision has them: a struct of them would be made in each
-// exported call and taken apart here, and cleaning and the tally have no caller.
+// Caller, AppID, version, body and table are arguments, as document 01's decision has them, here, in cleaning and in the tally: a struct of
+// the last three would be made in each exported call only to be taken apart in `entries::select`.
 pub fn decide(
     caller: &[u8],
     appid: &[u8],

@@ -6,3 +6,4 @@ pub mod Tellings
 pub mod Walks
 pub mod KeptTests
 pub mod KeptNormal
+pub mod FoldLaws

@@ -1,29 +1,25 @@
 -- The AppID, read once; its label, found once, settles cause 4 for every entry.
 use Rattle.std.specs.Prelude.{if◌then◌else◌, Option, None, Some, is_some, option_map, Ok, Err}
+use Rattle.std.proofs.Math.Logic.{∥∥₁_elim}
+use Rattle.std.proofs.Props.{props}
 use mathlib.Core.Path.{◌≡◌, refl, sym, ap, ◌∙◌}
 use mathlib.Core.Bool.{Bool, true, false, ◌||◌, not}
-use mathlib.Core.List.{[], ◌∷◌}
-use Prim.Native.Nat.{ℕ, zero, suc, ◌+◌, ◌-◌, ◌≤◌, ◌<◌, ◌^◌}
+use Prim.Native.Nat.{ℕ, ◌+◌, ◌-◌, ◌≤◌, ◌<◌}
 use native.Mathlib.Omega.{arith}
-use mir.Syntax.{w64}
-use mir.Val.{Fits}
-use lib.ListN.{length, take, drop, length-drop, length-take}
-use lib.Seq.{drop-drop, take-nil}
+use lib.ListN.{length, take, drop}
 use lib.Dec.{leb, ltb}
 use borrow.Author.Tests.{lt-ltb, le-ltb, leb-true}
-use Rattle.ascii.specs.Ascii.{Bytes, ◌>>=◌, is_none}
+use Rattle.ascii.specs.Ascii.{Bytes, ◌>>=◌}
 use Rattle.hosts.specs.Host.{is_host}
 use Rattle.hosts.specs.code.Place.{ends_at_label}
-use Rattle.suffix.specs.Suffix.{read_table, private_label, or_empty}
-use Rattle.suffix.specs.code.Deeper.{is_deeper, is_the_label}
-use Rattle.suffix.specs.code.Depth.{deeper_than}
-use Rattle.label_lookup.specs.code.Span.{OwnerFound, OwnerIs, bad_table as no_table, owner_is}
+use Rattle.suffix.specs.Suffix.{private_label}
+use Rattle.suffix.specs.code.Deeper.{is_the_label}
+use Rattle.label_lookup.specs.code.Span.{OwnerFound, Owns, no_label, has_label, OwnerIs, bad_table as no_table, owner_is}
 use Rattle.label_lookup.specs.declared.Deeper.{Deeper}
-use Rattle.label_lookup.specs.declared.Owner.{Owner as HostOwner}
+use Rattle.label_lookup.specs.declared.Owner.{Owner}
 use Rattle.refusals.specs.declared.Refusal.TheVariants.{BadAppId}
 use Rattle.entries.specs.declared.url.Url.{Url}
 use Rattle.suffix.proofs.Speed.{one_label}
-use Rattle.suffix.proofs.Owned.{label_some}
 use Rattle.deeper_rules.specs.code.Findings.{Tells}
 use Rattle.origin.specs.Origin.{Authority, begins_https, read_https, is_tail, https_url}
 use Rattle.origin.specs.code.Parts.{part, authority_in, Reads}
@@ -31,7 +27,7 @@ use Rattle.origin.specs.declared.Parts.{Parts}
 use Rattle.origin.proofs.Readings.{found, is_none_lem}
 use Rattle.entries.specs.AppId.{is_bad_app_id, app_label}
 use Rattle.entries.specs.Causes.{labels_agree}
-use Rattle.entries.specs.code.Owner.{AppIdIs, is_bad, is_foreign, is_url, Owns, OwnedBy, bad_table, owned, Differs}
+use Rattle.entries.specs.code.Owner.{AppIdIs, is_bad, is_foreign, is_url, Owned, OwnedBy, bad_table, owned}
 use Rattle.entries.specs.code.HostEnds.{HostEnds}
 
 -- ---- the AppID
@@ -93,66 +89,25 @@ module _ (a : Bytes) where
 
 -- ---- its owner
 
-drop_taken : (i n : ℕ) (l : Bytes) → drop i (take n l) ≡ take (n - i) (drop i l)
-drop_taken zero n l = let f : n - 0 ≡ n = omega arith in rw f
-drop_taken (suc i) zero l = let f : 0 - suc i ≡ 0 = omega arith in rw f
-drop_taken (suc i) (suc n) [] = sym (take-nil (suc n - suc i))
-drop_taken (suc i) (suc n) (b ∷ l) = let f : suc n - suc i ≡ n - i = omega arith in rw f (drop_taken i n l)
-
-module _ (s : Bytes) (end : ℕ) (table : Bytes) {host : Bytes} {w : Option HostOwner} (O : OwnerIs table host w) where
-  pub owner_bad : w ≡ None → OwnedBy s end table None
-  owner_bad e = go O e
+module _ (s : Bytes) (end : ℕ) (table : Bytes) {host : Bytes} {w : Option (Option Owner)} (O : OwnerIs table host w) where
+  pub owner_kept : host ≡ take (end - 8) (drop 8 s) → OwnedBy s end table w
+  owner_kept H = go O
     where
-      go : {w : Option HostOwner} → OwnerIs table host w → w ≡ None → OwnedBy s end table None
-      go (no_table t) e = bad_table t
-      go (owner_is t L) e = let z : ◌≡◌ {A = ℕ} 0 1 = cc in absurd (omega arith)
+      at_host : part s 8 end ≡ host
+      at_host = unfold part in (sym H)
 
-  module _ {x : HostOwner} (e : w ≡ Some x) where
-    record Found-label : Type 0 where
-      good : is_none (read_table table) ≡ false
-      label : OwnerFound table host x
+      of_host : (o : Option Authority) → option_map (λ u. u.host) o ≡ Some (part s 8 end) → private_label table host ≡ (o >>= λ u. private_label table u.host)
+      of_host None e = let z : ◌≡◌ {A = ℕ} 0 1 = cc in absurd (omega arith)
+      of_host (Some u) e = let z : u.host ≡ part s 8 end = cc in ap (private_label table) (sym (z ∙ at_host))
 
-    found_label : Found-label
-    found_label = go O e
-      where
-        go : {w : Option HostOwner} → OwnerIs table host w → w ≡ Some x → Found-label
-        go (no_table t) e = let z : ◌≡◌ {A = ℕ} 0 1 = cc in absurd (omega arith)
-        go (owner_is {o} t L) e = let y : o ≡ x = cc in record { good = t; label = rw (← y) L }
+      own : HostEnds s end → private_label table host ≡ app_label table s
+      own E = unfold app_label in (of_host (https_url s) E.is)
 
-    pub owner_fits : {k : ℕ} → host ≡ take (end - k) (drop k s) → 8 ≤ k → length s < 2 ^ 64 → Fits w64 (8 + x.start)
-    owner_fits {k} H m l = record { fits = omega (arith, found_label.label.place.inside, ap length H, length-take (end - k) (drop k s), length-drop k s) }
-
-    pub owner_label : host ≡ take (end - 8) (drop 8 s) → OwnedBy s end table (Some (record { label = record { from = 8 + x.start; to = end }; deeper = x.deeper }))
-    owner_label H =
-        let L = found_label.label in
-        owned {o = record { label = record { from = 8 + x.start; to = end }; deeper = x.deeper }} found_label.good (λ E. record {
-          is = record {
-            label_is = behind ∙ L.place.is ∙ ap or_empty (own E);
-            deeper_is = L.present_is ∙ ap (deeper_than table) (own E);
-            held = λ {d} t. record { host = host; is = rw behind (L.held d t) };
-          };
-        })
-      where
-        behind : part s (8 + x.start) end ≡ drop x.start host
-        behind = unfold part in
-            (let f : end - (8 + x.start) ≡ end - 8 - x.start = omega arith in
-            rw (f, H, drop_taken x.start (end - 8) (drop 8 s), drop-drop))
-
-        at_host : part s 8 end ≡ host
-        at_host = unfold part in (sym H)
-
-        of_host : (o : Option Authority) → option_map (λ u. u.host) o ≡ Some (part s 8 end) → private_label table host ≡ (o >>= λ u. private_label table u.host)
-        of_host None e = let z : ◌≡◌ {A = ℕ} 0 1 = cc in absurd (omega arith)
-        of_host (Some u) e = let z : u.host ≡ part s 8 end = cc in ap (private_label table) (sym (z ∙ at_host))
-
-        own : HostEnds s end → private_label table host ≡ app_label table s
-        own E = unfold app_label in (of_host (https_url s) E.is)
+      go : {w : Option (Option Owner)} → OwnerIs table host w → OwnedBy s end table w
+      go (no_table t) = bad_table t
+      go (owner_is g P) = owned g (λ E. record { host = host; label_is = own E; is = P })
 
 -- ---- cause 4 of one host
-
-some_label : (o : Option Bytes) {label : Bytes} → label ≡ or_empty o → (length label ≡ 0 → ⊥) → o ≡ Some label
-some_label None e n = absurd (n (ap length e))
-some_label (Some l) e n = ap Some (sym e)
 
 agree_none : (o : Option Bytes) → labels_agree o None ≡ false
 unfolding labels_agree
@@ -164,46 +119,24 @@ unfolding labels_agree is_the_label
 agree_some label None = refl
 agree_some label (Some l) = refl
 
--- the AppID's host, where it has a label
-record AppHost (table label : Bytes) : Type 0 where
-  host : Bytes
-  is : private_label table host ≡ Some label
+no_owner : {table host : Bytes} {o : Option Owner} → Owns table host o → o ≡ None → private_label table host ≡ None
+no_owner (no_label p) e = p
+no_owner (has_label F) e = let z : ◌≡◌ {A = ℕ} 0 1 = cc in absurd (omega arith)
 
-app_host : (appid table : Bytes) {label : Bytes} → app_label table appid ≡ Some label → AppHost table label
-unfolding app_label
-app_host appid table {label} e = go (https_url appid) e
-  where
-    go : (o : Option Authority) → (o >>= λ u. private_label table u.host) ≡ Some label → AppHost table label
-    go None e = let z : ◌≡◌ {A = ℕ} 0 1 = cc in absurd (omega arith)
-    go (Some u) e = record { host = u.host; is = e }
+its_owner : {table host : Bytes} {o : Option Owner} {w : Owner} → Owns table host o → o ≡ Some w → OwnerFound table host w
+its_owner (no_label p) e = let z : ◌≡◌ {A = ℕ} 0 1 = cc in absurd (omega arith)
+its_owner {w} (has_label {o = x} F) e = let z : x ≡ w = cc in rw z at F
 
-empty_none : (appid table : Bytes) {label : Bytes} → label ≡ or_empty (app_label table appid) → length label ≡ 0 → app_label table appid ≡ None
-empty_none appid table {label} e n = go (app_label table appid) refl e
-  where
-    go : (o : Option Bytes) → app_label table appid ≡ o → label ≡ or_empty o → o ≡ None
-    go None f e = refl
-    go (Some l) f e = let H = app_host appid table f in absurd (omega (arith, ap length e, label_some table H.host l H.is))
+module _ (appid table host : Bytes) {o : Option Owner} (W : ∥ Owned appid table o ∥₁) where
+  pub other_none : {r : Bool} → r ≡ true → o ≡ None → r ≡ not (labels_agree (private_label table host) (app_label table appid))
+  other_none t n = t ∙ ∥∥₁_elim W (Prim.hlevel props) (λ O. rw (sym O.label_is ∙ no_owner O.is n, agree_none (private_label table host)))
 
-module _ (table label : Bytes) (deeper : Option Deeper) (host : Bytes) where
-  pub differs_none : length label ≡ 0 → Differs table label deeper host true
-  differs_none n = record { is = λ appid O h. rw (empty_none appid table O.label_is n, agree_none (private_label table host)) }
+  module _ (h : is_host host ≡ true) {w : Owner} (f : o ≡ Some w) {q : Bool} where
+    by : (Owned appid table o → q ≡ is_the_label w.label.now (private_label table host)) → not q ≡ not (labels_agree (private_label table host) (app_label table appid))
+    by T = ∥∥₁_elim W (Prim.hlevel props) (λ O. ap not (T O ∙ sym (agree_some w.label.now (private_label table host))) ∙ ap (λ (l : Option Bytes). not (labels_agree (private_label table host) l)) (sym (its_owner O.is f).label_is ∙ O.label_is))
 
-  module _ (n : length label ≡ 0 → ⊥) {q : Bool} where
-    pub differs_deeper : {held : Deeper} → deeper ≡ Some held → Tells table label held host q → Differs table label deeper host (not q)
-    differs_deeper {held} d T = record { is = λ appid O h. ap not (sym (by_lookup appid O h)) }
-      where
-        by_lookup : (appid : Bytes) → Owns appid table label deeper → is_host host ≡ true → labels_agree (private_label table host) (app_label table appid) ≡ q
-        by_lookup appid O h = let H = O.held d in rw (some_label (app_label table appid) O.label_is n) (agree_some label (private_label table host) ∙ sym (T.is H.host H.is h))
+    pub other_deeper : {held : Deeper} → w.deeper ≡ Some held → Tells table w.label.now held host q → not q ≡ not (labels_agree (private_label table host) (app_label table appid))
+    other_deeper {held} d T = by (λ O. T.is O.host ((its_owner O.is f).held held d) h)
 
-    pub differs_end : deeper ≡ None → q ≡ ends_at_label label host → Differs table label deeper host (not q)
-    differs_end d e = record { is = λ appid O h. ap not (sym (by_end appid O h)) }
-      where
-        deeper_of : (appid : Bytes) → app_label table appid ≡ Some label → deeper_than table (app_label table appid) ≡ is_deeper table label
-        deeper_of appid a = unfold deeper_than in (rw a)
-
-        by_end : (appid : Bytes) → Owns appid table label deeper → is_host host ≡ true → labels_agree (private_label table host) (app_label table appid) ≡ q
-        by_end appid O h =
-            let a : app_label table appid ≡ Some label = some_label (app_label table appid) O.label_is n in
-            let H = app_host appid table a in
-            let z : is_deeper table label ≡ false = sym (deeper_of appid a) ∙ sym O.deeper_is ∙ ap is_some d in
-            rw a (agree_some label (private_label table host) ∙ one_label table H.host label H.is host h z ∙ sym e)
+    pub other_end : w.deeper ≡ None → q ≡ ends_at_label w.label.now host → not q ≡ not (labels_agree (private_label table host) (app_label table appid))
+    other_end d e = by (λ O. let F = its_owner O.is f in e ∙ sym (one_label table O.host w.label.now F.label_is host h (sym F.present_is ∙ ap is_some d)))

@@ -11,7 +11,6 @@ use lib.Dec.{leb}
 use lib.ListN.{length, take, drop}
 use borrow.Author.Tests.{lt-ltb, leb-false}
 use Rattle.ascii.specs.Ascii.{Bytes}
-use Rattle.origin.specs.code.Parts.{part}
 use Rattle.json_text.specs.Reader.{got}
 use Rattle.json_text.specs.Lexical.{read_string}
 use Rattle.json_text.specs.code.Places.{read_at, place_of, fit, PutsRead}
@@ -19,15 +18,11 @@ use Rattle.json_text.specs.code.Held.{content}
 use Rattle.json_text.specs.code.PlainString.{Within, in_the_text, no_place, Plain, plain_string, other_string, PlainIs}
 use Rattle.json_text.specs.declared.decoding.Decoded.{Decoded}
 use Rattle.json_text.proofs.Holding.{put_first}
-use Rattle.std.proofs.Math.Logic.{∥∥₁_elim}
-use Rattle.std.proofs.Props.{props}
 use Rattle.trusted_list.specs.code.Entries.{next_entry}
 use Rattle.entries.specs.Causes.{cause}
-use Rattle.entries.specs.code.Owner.{Owns, Owned, Judges}
-use Rattle.entries.specs.code.Reading.{Decodes, EntryIs, Reads, ReadsOf}
+use Rattle.entries.specs.code.Reading.{Decodes, EntryIs, ReadsOf}
 use Rattle.entries.specs.declared.Cause.{Cause}
 use Rattle.entries.specs.declared.Cause.TheVariants.{TooLong}
-use Rattle.entries.specs.declared.Owner.{Owner}
 use Rattle.entries.specs.declared.Entry.{Entry}
 
 -- ---- decoded
@@ -87,41 +82,27 @@ fit_some e {t} h = go (leb (length e) 512) h
     go true h = cc
     go false h = let z : ◌≡◌ {A = ℕ} 0 1 = cc in absurd (omega arith)
 
-module _ (body : Bytes) (at : ℕ) (appid : Bytes) (o : Owner) (table : Bytes) {d : Decoded} {r : Option ℕ} (D : Decodes body at d r) where
-  pub read_wrong : {x : Entry} → r ≡ None → Reads body at appid o table d x
-  read_wrong {x} h = record { is = λ O e j f. nothing e j (D.place e j f) }
+module _ (body : Bytes) (at : ℕ) (appid table : Bytes) {d : Decoded} {r : Option ℕ} (D : Decodes body at d r) where
+  pub read_wrong : {x : Entry} → r ≡ None → ReadsOf body at appid table d x
+  read_wrong {x} h = record { is = λ e j f. nothing e j (D.place e j f) }
     where
       nothing : (e : Bytes) (j : ℕ) → r ≡ Some j → EntryIs appid table body e j d x
       nothing e j f = let z : ◌≡◌ {A = ℕ} 0 1 = cc in absurd (omega arith)
 
   module _ {k : ℕ} (h : r ≡ Some k) {y : Option ℕ} (N : y ≡ next_entry body k) where
     -- held, and judged by v
-    read_so : {v : Option Cause} → (Owned appid table o → (e : Bytes) → content d ≡ fit e → v ≡ cause appid table e) → Reads body at appid o table d (record { cause = v; next = y })
-    read_so C = record { is = λ O e j f. record { content_is = D.is e j f; cause_is = C O e (D.is e j f); next_is = N ∙ ap (next_entry body) (ends j (D.place e j f)) } }
+    read_so : {v : Option Cause} → ((e : Bytes) → content d ≡ fit e → v ≡ cause appid table e) → ReadsOf body at appid table d (record { cause = v; next = y })
+    read_so C = record { is = λ e j f. record { content_is = D.is e j f; cause_is = C e (D.is e j f); next_is = N ∙ ap (next_entry body) (ends j (D.place e j f)) } }
       where
         ends : (j : ℕ) → r ≡ Some j → k ≡ j
         ends j f = cc
 
     module _ {T : Type 0} (f : T → Bytes) {q : Option T} (E : option_map f q ≡ content d) where
-      pub read_over : q ≡ None → Reads body at appid o table d (record { cause = Some TooLong; next = y })
-      read_over l = read_so (λ O e x. too_long e (fit_none e (sym (ap (option_map f) l) ∙ E ∙ x)))
+      pub read_over : q ≡ None → ReadsOf body at appid table d (record { cause = Some TooLong; next = y })
+      read_over l = read_so (λ e x. too_long e (fit_none e (sym (ap (option_map f) l) ∙ E ∙ x)))
         where
           too_long : (e : Bytes) → 512 < length e → Some TooLong ≡ cause appid table e
           too_long e m = unfold cause in (rw (lt-ltb 512 (length e) m))
 
-      pub read_judged : {t : T} {label : Bytes} {v : Option Cause} → q ≡ Some t → label ≡ take (o.label.to - o.label.from) (drop o.label.from appid) → Judges table label o.deeper (f t) v
-          → Reads body at appid o table d (record { cause = v; next = y })
-      read_judged {label} l L J = read_so (λ O e x. J.is appid (owns O) ∙ ap (cause appid table) (fit_some e (sym (ap (option_map f) l) ∙ E ∙ x)))
-        where
-          owns : Owned appid table o → Owns appid table label o.deeper
-          owns O = rw L (unfold part in O.is)
-
--- read for an AppID whose owner is known
-pub read_owned : {body : Bytes} {at : ℕ} {appid : Bytes} {o : Owner} {table : Bytes} {d : Decoded} {r : Entry} → Reads body at appid o table d r → ∥ Owned appid table o ∥₁ → ReadsOf body at appid table d r
-read_owned R O = record {
-  is = λ e j f. record {
-    content_is = ∥∥₁_elim O (Prim.hlevel props) (λ p. (R.is p e j f).content_is);
-    cause_is = ∥∥₁_elim O (Prim.hlevel props) (λ p. (R.is p e j f).cause_is);
-    next_is = ∥∥₁_elim O (Prim.hlevel props) (λ p. (R.is p e j f).next_is);
-  };
-}
+      pub read_judged : {t : T} {v : Option Cause} → q ≡ Some t → v ≡ cause appid table (f t) → ReadsOf body at appid table d (record { cause = v; next = y })
+      read_judged l J = read_so (λ e x. J ∙ ap (cause appid table) (fit_some e (sym (ap (option_map f) l) ∙ E ∙ x)))

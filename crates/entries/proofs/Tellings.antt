@@ -20,7 +20,7 @@ use Rattle.entries.specs.code.HostEnds.{HostEnds}
 use Rattle.entries.specs.code.Reading.{IdsThere, entries_at}
 use Rattle.entries.specs.code.Selecting.{listed, Selects, unselected, no_table, selects}
 use Rattle.entries.specs.declared.url.Url.{Url}
-use Rattle.entries.specs.declared.Owner.{Owner}
+use Rattle.label_lookup.specs.declared.Owner.{Owner}
 use Rattle.entries.specs.declared.selected.Selected.{Selected}
 
 -- ---- the AppID
@@ -95,26 +95,26 @@ module _ {major minor : ℕ} {body : Bytes} {q : Result ℕ Refusal} (S : Answer
     pub select_short : length body ≤ 65536
     select_short = (accepted_selects major minor body accepts).short
 
-    module _ {end : ℕ} {w : Option Owner} (O : OwnedBy appid end table w) where
+    module _ {end : ℕ} {w : Option (Option Owner)} (O : OwnedBy appid end table w) where
       pub select_no_table : w ≡ None → Selects appid major minor body table (Err BadTable)
       select_no_table h = no_table accepts (go O h)
         where
-          go : {w : Option Owner} → OwnedBy appid end table w → w ≡ None → read_table table ≡ None
+          go : {w : Option (Option Owner)} → OwnedBy appid end table w → w ≡ None → read_table table ≡ None
           go (bad_table t) h = t
           go (owned a b) h = let z : ◌≡◌ {A = ℕ} 0 1 = cc in absurd (omega arith)
 
-      module _ {o : Owner} (e : w ≡ Some o) where
+      module _ {o : Option Owner} (e : w ≡ Some o) where
         pub select_owned : HostEnds appid end → ∥ Owned appid table o ∥₁
         select_owned E = ∣ go O e E ∣₁
           where
-            go : {w : Option Owner} → OwnedBy appid end table w → w ≡ Some o → HostEnds appid end → Owned appid table o
+            go : {w : Option (Option Owner)} → OwnedBy appid end table w → w ≡ Some o → HostEnds appid end → Owned appid table o
             go (bad_table t) h E = let z : ◌≡◌ {A = ℕ} 0 1 = cc in absurd (omega arith)
             go (owned {o = i} a b) h E = let x : i ≡ o = cc in rw x at (b E)
 
         good_table : is_none (read_table table) ≡ false
         good_table = go O e
           where
-            go : {w : Option Owner} → OwnedBy appid end table w → w ≡ Some o → is_none (read_table table) ≡ false
+            go : {w : Option (Option Owner)} → OwnedBy appid end table w → w ≡ Some o → is_none (read_table table) ≡ false
             go (bad_table t) h = let z : ◌≡◌ {A = ℕ} 0 1 = cc in absurd (omega arith)
             go (owned a b) h = a
 

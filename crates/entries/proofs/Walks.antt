@@ -1,19 +1,19 @@
 -- The walk over the entries: what each turn of a consumer's loop knows.
-use Rattle.std.specs.Prelude.{slice_get, Option, None, Some, is_some, not, unwrap_or}
+use Rattle.std.specs.Prelude.{slice_get, Option, None, Some, unwrap_or}
 use mathlib.Core.Path.{◌≡◌, refl, sym, ap, ◌∙◌}
 use mathlib.Core.Bool.{Bool, true, false}
 use mathlib.Core.List.{List, [], ◌∷◌}
 use Prim.Native.Nat.{ℕ, zero, suc, ◌+◌, ◌≤◌, ◌<◌}
 use native.Mathlib.Omega.{arith}
+use lib.Dec.{leb}
 use lib.ListN.{length}
-use borrow.Author.Tests.{ltb-false, le-leb}
+use borrow.Author.Tests.{ltb-false, le-leb, leb-true}
 use Rattle.ascii.specs.Ascii.{Bytes, among, filter_by, text, ◌>>=◌}
 use Rattle.json_text.specs.Reader.{Read, got, bad, satisfy}
 use Rattle.json_text.specs.Lexical.{read_string}
 use Rattle.json_text.specs.code.Places.{read_at, fit}
 use Rattle.json_text.specs.code.Held.{content}
 use Rattle.json_text.specs.declared.decoding.Decoded.{Decoded}
-use Rattle.json_text.proofs.Holding.{content_short}
 use Rattle.json_text.proofs.Steps.{wide, peeks, here as seen_here, in_text, one_yes, one_no, no_fall, found}
 use Rattle.json_text.proofs.TakenApart.{bound}
 use Rattle.trusted_list.specs.code.Entries.{to_next, first_entry, next_entry, Coming, over, comes}
@@ -240,14 +240,6 @@ module _ {w v : Entries} {r : Option (Option Cause)} (A : Advances w v r) where
       go (at_end e W) h = let z : ◌≡◌ {A = ℕ} 0 1 = cc in absurd (omega arith)
       go (advanced {c = b} f W g k) h = let z : b ≡ c = cc in told f W g k z
 
--- the walk never goes back: at a wrong turn too, the measure's fact is found
-pub less_on : {u v : Entries} (w : Entries) {r : Option (Option Cause)} → Advances v u r → length (to_come v) < length (to_come w) → length (to_come u) < length (to_come w)
-less_on {u} {v} w A h = omega (arith, h, go A)
-  where
-    go : {r : Option (Option Cause)} → Advances v u r → length (to_come u) ≤ length (to_come v)
-    go (at_end e W) = omega (arith, ap length W.coming_is)
-    go (advanced f W g k) = omega (arith, ap length f, ap length W.coming_is)
-
 -- a list has fewer entries than its body has bytes
 come_short : {body : Bytes} (q : Option ℕ) {es : List Bytes} → Coming body q es → (i : ℕ) → q ≡ Some i → length es + i ≤ length body
 come_short None over i h = let z : ◌≡◌ {A = ℕ} 0 1 = cc in absurd (omega arith)
@@ -264,13 +256,23 @@ list_short l = go (first_entry l.body.now l.ids) refl (stand_first l.there refl)
     go None e C = omega (arith, ap length (nothing_comes C (sym e)))
     go (Some i) e C = omega (arith, come_short (first_entry l.body.now l.ids) C i (sym e), l.short)
 
--- no cause, as the code tests it
-pub none_is : {o : Option Cause} {q : Bool} → is_some o ≡ not q → q ≡ true → o ≡ None
-none_is {o} e h = go o (e ∙ ap not h)
-  where
-    go : (o : Option Cause) → is_some o ≡ false → o ≡ None
-    go None f = refl
-    go (Some c) f = let z : ◌≡◌ {A = ℕ} 0 1 = cc in absurd (omega arith)
+-- what is held of a kept entry is the entry
+module _ (appid table e : Bytes) {p : Bytes} (h : p ≡ unwrap_or (fit e) []) where
+  pub held_kept : cause appid table e ≡ None → p ≡ e
+  held_kept k = h ∙ ap (λ (x : Option Bytes). unwrap_or x []) whole
+    where
+      small : length e ≤ 512
+      small = ltb-false 512 (length e) (kept_passes appid table e (unfold is_kept in (rw k))).short
+
+      whole : fit e ≡ Some e
+      whole = unfold fit in (rw (le-leb (length e) 512 small))
+
+  pub fit_short : length p ≤ 512
+  fit_short = rw h (go (leb (length e) 512) refl)
+    where
+      go : (b : Bool) → leb (length e) 512 ≡ b → length (unwrap_or (fit e) []) ≤ 512
+      go true z = unfold fit in (rw z (leb-true (length e) 512 z))
+      go false z = unfold fit in (rw z (omega arith))
 
 module _ {l : Selected} {w v : Entries} {c : Option Cause} (T : Turn l w v c) where
   pub turn_less : length (to_come v) < length (to_come w)
@@ -282,20 +284,10 @@ module _ {l : Selected} {w v : Entries} {c : Option Cause} (T : Turn l w v c) wh
     kept_none_fits = sym T.cause_is ∙ h
 
     pub kept_held : {p : Bytes} → p ≡ unwrap_or (held_of v) [] → p ≡ T.entry
-    kept_held e = e ∙ ap (λ (x : Option Bytes). unwrap_or x []) (T.content_is ∙ is_some)
-      where
-        small : cause l.appid.now l.table.now T.entry ≡ None → length T.entry ≤ 512
-        small e = ltb-false 512 (length T.entry) (kept_passes l.appid.now l.table.now T.entry (unfold is_kept in (rw e))).short
-
-        is_some : fit T.entry ≡ Some T.entry
-        is_some = unfold fit in (rw (le-leb (length T.entry) 512 (small kept_none_fits)))
+    kept_held e = held_kept l.appid.now l.table.now T.entry (e ∙ ap (λ (x : Option Bytes). unwrap_or x []) T.content_is) kept_none_fits
 
     pub kept_first : kept l.appid.now l.table.now (to_come w) ≡ T.entry ∷ kept l.appid.now l.table.now (to_come v)
     kept_first = ap (kept l.appid.now l.table.now) T.whole ∙ kept_more l.appid.now l.table.now T.entry (to_come v) kept_none_fits
 
   pub dropped_first : {x : Cause} → c ≡ Some x → kept l.appid.now l.table.now (to_come w) ≡ kept l.appid.now l.table.now (to_come v)
   dropped_first {x} h = ap (kept l.appid.now l.table.now) T.whole ∙ kept_less l.appid.now l.table.now T.entry (to_come v) (sym T.cause_is ∙ h)
-
--- what is held is never longer
-pub held_short : (w : Entries) {p : Bytes} → p ≡ unwrap_or (held_of w) [] → length p ≤ 512
-held_short w e = rw e (content_short w.last)

@@ -3,3 +3,4 @@ pub mod Reading
 pub mod HostEnds
 pub mod Selecting
 pub mod Walking
+pub mod Folding

@@ -9,9 +9,8 @@ ghost use Rattle.entries.specs.code.Owner.{AppIdIs, OwnedBy, Differs, Judges};
 ghost use Rattle.entries.specs.code.Reading.{Decodes, Reads};
 ghost use Rattle.entries.specs.code.Selecting.{Selects};
 
-use ascii::Span;
 use json_text::Decoded;
-use label_lookup::Deeper;
+use label_lookup::Owner;
 use refusals::Refusal;
 pub use selected::Selected;
 use trusted_list::Version;
@@ -38,27 +37,13 @@ pub fn read_appid<'a>(appid: &'a [u8]) -> Result<Option<Url<'a>>, Refusal>
     Ok(None)
 }
 
-// Where the AppID's private label stands in it, empty where it has none; and what is held of the rules that go deeper than
-// it, where some do.
-#[derive(Clone, Copy)]
-pub struct Owner {
-    pub label: Span,
-    pub deeper: Option<Deeper>,
-}
-
-// One pass over the table for the AppID's own host, which stands behind `https://` up to its end; two where rules go deeper than
-// its label. None for a bad table.
-pub fn find_owner(appid: &[u8], end: usize, table: &[u8]) -> Option<Owner>
+// What is held of the AppID's private label, none where it has none: one pass over the table for the AppID's own host, which stands behind
+// `https://` up to its end; two where rules go deeper than its label. None for a bad table.
+pub fn find_owner<'a>(appid: &'a [u8], end: usize, table: &[u8]) -> Option<Option<Owner<'a>>>
     ensures { OwnedBy appid.now end table.now result }
 {
     let host = ascii::part(appid, 8, end);
-    let found = label_lookup::find_owner(host, table)?;
-    let label = Span {
-        from: 8 + found.start,
-        to: end,
-    };
-    let deeper = found.deeper;
-    Some(Owner { label, deeper })
+    label_lookup::find_owner(host, table)
 }
 
 // ---- causes
@@ -72,23 +57,23 @@ pub enum Cause {
     OtherLabel,
 }
 
-// The host has no private label, or another one than the AppID. Only where rules go deeper than the AppID's label are their lines
-// looked up.
-fn is_other_label(host: &[u8], label: &[u8], deeper: &Option<Deeper>, table: &[u8]) -> bool
-    ensures { Differs table.now label.now deeper.now host.now result }
+// The host has no private label, or another one than the AppID, for which this is held. Only where rules go deeper than the AppID's
+// label are their lines looked up.
+fn is_other_label(host: &[u8], owner: &Option<Owner>, table: &[u8]) -> bool
+    ensures { Differs table.now owner.now host.now result }
 {
-    if label.len() == 0 {
+    let Some(own) = owner else {
         return true;
-    }
-    match deeper {
-        Some(held) => !deeper_rules::has_label(host, label, held, table),
-        None => !hosts::ends_at_label(host, label),
+    };
+    match &own.deeper {
+        Some(held) => !deeper_rules::has_label(host, own.label, held, table),
+        None => !hosts::ends_at_label(host, own.label),
     }
 }
 
-// The first cause that holds of an entry, for the AppID with this label; none: it is kept.
-fn judge(entry: &[u8], label: &[u8], deeper: &Option<Deeper>, table: &[u8]) -> Option<Cause>
-    ensures { Judges table.now label.now deeper.now entry.now result }
+// The first cause that holds of an entry, for such an AppID; none: it is kept.
+fn judge(entry: &[u8], owner: &Option<Owner>, table: &[u8]) -> Option<Cause>
+    ensures { Judges table.now owner.now entry.now result }
 {
     // cause 1's bound
     if 512 < entry.len() {
@@ -99,7 +84,7 @@ fn judge(entry: &[u8], label: &[u8], deeper: &Option<Deeper>, table: &[u8]) -> O
             return Some(Cause::NotFacet);
         };
         let end = p.end;
-        if is_other_label(&entry[8..end], label, deeper, table) {
+        if is_other_label(&entry[8..end], owner, table) {
             return Some(Cause::OtherLabel);
         }
         return None;
@@ -108,7 +93,7 @@ fn judge(entry: &[u8], label: &[u8], deeper: &Option<Deeper>, table: &[u8]) -> O
         if origin::is_native(entry) {
             return None;
         }
-        return Some(Cause::NotFacet);
+        return Some(Cause::NotFacet); // a native prefix alone
     }
     Some(Cause::OtherScheme)
 }
@@ -136,16 +121,15 @@ fn decode_entry(out: &mut Decoded, body: &[u8], at: usize) -> Option<usize>
     Some(q + 1)
 }
 
-// The entry at a place of the selected list, for the AppID with this owner.
+// The entry at a place of the selected list, for an AppID with this owner.
 pub fn read_entry(
     out: &mut Decoded,
     body: &[u8],
     at: usize,
-    appid: &[u8],
-    owner: &Owner,
+    owner: &Option<Owner>,
     table: &[u8],
 ) -> Entry
-    ensures { Reads body.now at appid.now owner.now table.now out.new result }
+    ensures { Reads body.now at owner.now table.now out.new result }
 {
     let Some(j) = decode_entry(out, body, at) else {
         return Entry {
@@ -161,8 +145,7 @@ pub fn read_entry(
             next,
         };
     };
-    let label = owner.label.of(appid);
-    let cause = judge(entry, label, &owner.deeper, table);
+    let cause = judge(entry, owner, table);
     Entry { cause, next }
 }
 

@@ -3,14 +3,15 @@ ghost use Rattle.std.specs.Prelude.{◌≡◌, ◌≤◌, length};
 ghost use Rattle.entries.specs.code.Owner.{Owned};
 ghost use Rattle.entries.specs.code.Reading.{IdsThere, ReadsOf};
 
-use crate::{Entries, Entry, Owner, read_entry};
+use crate::{Entries, Entry, read_entry};
 use json_text::Decoded;
+use label_lookup::Owner;
 
-// The list that a body selects, for an AppID with this owner.
+// The list that a body selects for an AppID, with what is held of the AppID's private label, none where it has none.
 #[derive(Clone, Copy)]
 pub struct Selected<'a> {
     pub appid: &'a [u8],
-    pub owner: Owner,
+    pub owner: Option<Owner<'a>>,
     pub body: &'a [u8],
     pub ids: usize,
     pub table: &'a [u8],
@@ -39,7 +40,7 @@ impl Selected<'_> {
     pub fn read(&self, out: &mut Decoded, at: usize) -> Entry
         ensures { ReadsOf self.now.body.now at self.now.appid.now self.now.table.now out.new result }
     {
-        read_entry(out, self.body, at, self.appid, &self.owner, self.table)
+        read_entry(out, self.body, at, &self.owner, self.table)
     }
 
     // The body that it is selected from.

@@ -69,11 +69,11 @@ module _ (lent : Bytes) (h : Redirect) where
   unfolding in_text
   hop_end i e = omega (arith, leb-true (h.start + h.size) (length lent) i)
 
-  module _ {end : ℕ} {q : Option Parts} (a : h.authorized ≡ true) (e : end ≡ h.start + h.size)
-      (R : Reads (take (end - h.start) (drop h.start lent)) (https_url (take (end - h.start) (drop h.start lent))) q) where
-    hop_is : hop_refusal lent (h ∷ []) ≡ (if is_none (https_url (take (end - h.start) (drop h.start lent))) then Some BadLocation else None)
+  module _ {start end : ℕ} {q : Option Parts} (a : h.authorized ≡ true) (b : start ≡ h.start) (e : end ≡ h.start + h.size)
+      (R : Reads (take (end - start) (drop start lent)) (https_url (take (end - start) (drop start lent))) q) where
+    hop_is : hop_refusal lent (h ∷ []) ≡ (if is_none (https_url (take (end - start) (drop start lent))) then Some BadLocation else None)
     unfolding hop_refusal location
-    hop_is = let z : end - h.start ≡ h.size = omega arith in rw (a, z)
+    hop_is = let z : end - start ≡ h.size = omega arith in rw (a, z, b)
 
     pub hop_bad : q ≡ None → hops_read (Err BadLocation) ≡ hop_refusal lent (h ∷ [])
     unfolding hops_read authority_in

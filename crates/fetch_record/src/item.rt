@@ -24,7 +24,7 @@ impl Redirect {
     pub(crate) fn location_end(&self) -> usize
         ensures { result ≡ self.now.start + self.now.size }
     {
-        self.start as usize + self.size as usize
+        usize::from(self.start) + usize::from(self.size)
     }
 }
 

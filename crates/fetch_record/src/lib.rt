@@ -30,7 +30,7 @@ struct Layout {
 fn read_end(s: &[u8]) -> Option<Option<Answer>>
     ensures { end_read result ≡ read_end s.now }
 {
-    if s.len() == 0 {
+    if s.is_empty() {
         return Some(None);
     }
     if s.len() != 4 {
@@ -50,7 +50,7 @@ fn hop(text: &[u8], h: Redirect) -> Result<(), Refusal>
     if !h.authorized {
         return Err(Refusal::OpenRedirect);
     }
-    let start = h.start as usize;
+    let start = usize::from(h.start);
     let end = h.location_end();
     match origin::https_url(&text[start..end]) {
         Some(_) => Ok(()),
@@ -145,7 +145,7 @@ impl FetchRecord<'_, '_> {
         }
         let h = self.redirect_at(n - 1);
         Some(Span {
-            from: h.start as usize,
+            from: usize::from(h.start),
             to: h.location_end(),
         })
     }

@@ -10,18 +10,33 @@ use lib.Seq.{drop-cons}
 use lib.Dec.{eqb, ltb}
 use borrow.Author.Tests.{eq-eqb, ne_eqb, eqb-true, eqb-false, lt-leb, le-leb}
 use Rattle.ascii.specs.Ascii.{Bytes, all, take_while, last_of, join_head, split_at, is_digit, is_letter, is_upper, same}
-use Rattle.ascii.specs.Class.{class_of}
+use Rattle.ascii.specs.Class.{class_of, Classifies}
+use Rattle.ascii.specs.code.Runs.{Answers, RunEnds}
 use Rattle.ascii.proofs.Bytes.{agree}
-use Rattle.ascii.proofs.Scan.{while_all, while_stops, scan_rest, scan_part, scan_to}
+use Rattle.ascii.proofs.Scan.{while_all, while_stops, scan_rest, scan_part, scan_from, scan_to}
 use Rattle.ascii.proofs.Split.{split_parts, split_other, on_first, split_while, on_first_end, on_first_here}
 use Rattle.hosts.specs.Host.{labels, is_label_byte, is_shaped, is_label, is_host}
+use Rattle.hosts.specs.code.Lent.{has_label_class, LabelEnds, HostBy}
 
 -- ---- label bytes by their class
 
+pub class_is : (table : Bytes) (b : ℕ) → ltb (get_or table b 0) 3 ≡ has_label_class table b
+unfolding has_label_class
+class_is table b = refl
+
 -- the classes 0, 1 and 2 are the label bytes
-pub label_class : (b : ℕ) {c : ℕ} → c ≡ class_of b → b < 256 → ltb c 3 ≡ is_label_byte b
-unfolding class_of is_letter is_upper is_digit is_label_byte
-label_class b e h = rw e (agree (λ k. ltb (class_of k) 3) is_label_byte tt b h)
+label_class : (table : Bytes) → Classifies table → (b : ℕ) → b < 256 → has_label_class table b ≡ is_label_byte b
+unfolding has_label_class class_of is_letter is_upper is_digit is_label_byte
+label_class table C b h = rw (C.is b h) (agree (λ k. ltb (class_of k) 3) is_label_byte tt b h)
+
+pub label_ends : (table s : Bytes) (from to : ℕ) {P : ℕ → Bool → Type 0} → RunEnds P s from to → Answers P (has_label_class table) → LabelEnds table s from to
+label_ends table s from to R A =
+    let g = R.is (has_label_class table) A in
+    record {
+      onward = scan_from (has_label_class table) s from to g;
+      inside = scan_to (has_label_class table) s from to g;
+      is = λ C. R.is is_label_byte (λ b q h p. A b q h p ∙ label_class table C b h);
+    }
 
 pub while_same : (f g : ℕ → Bool) → ((b : ℕ) → f b ≡ g b) → (l : Bytes) → take_while f l ≡ take_while g l
 unfolding take_while
@@ -109,12 +124,12 @@ pub record HostFrom (s : Bytes) (from : ℕ) : Type 0 where
   pub inside : from ≤ length s
   pub is : all is_label (split_at 46 (drop from s)) ≡ is_host s
 
-pub host_starts : (s : Bytes) → 1 ≤ length s → length s ≤ 253 → HostFrom s 0
+host_starts : (s : Bytes) → 1 ≤ length s → length s ≤ 253 → HostFrom s 0
 unfolding is_host labels
 host_starts s h k = record { inside = omega arith; is = rw (le-leb 1 (length s) h, le-leb (length s) 253 k) }
 
 module _ {s : Bytes} {from : ℕ} (H : HostFrom s from) {to : ℕ} (g : to ≡ from + length (take_while is_label_byte (drop from s))) where
-  pub host_part_end : to ≤ length s
+  host_part_end : to ≤ length s
   host_part_end = scan_to is_label_byte s from to g H.inside
 
   passing : all is_label_byte (take_while is_label_byte (drop from s)) ≡ true
@@ -131,26 +146,53 @@ module _ {s : Bytes} {from : ℕ} (H : HostFrom s from) {to : ℕ} (g : to ≡ f
     shape_is : is_label (take_while is_label_byte (drop from s)) ≡ r
     shape_is = shape_only (take_while is_label_byte (drop from s)) passing ∙ sym (t ∙ rw (scan_part is_label_byte s from to g))
 
-    pub host_misshapen : r ≡ false → false ≡ is_host s
+    host_misshapen : r ≡ false → false ≡ is_host s
     host_misshapen w =
         sym (misshapen (take_while is_label_byte (drop from s)) (drop to s) passing stopped
         (sym (shape_only (take_while is_label_byte (drop from s)) passing) ∙ shape_is ∙ w))
         ∙ split_is
 
-    pub host_ends : r ≡ true → length s ≤ to → true ≡ is_host s
+    host_ends : r ≡ true → length s ≤ to → true ≡ is_host s
     unfolding all
     host_ends w h = sym (rw (drop_of_length-le s h, on_first_end 46 (take_while is_label_byte (drop from s)), shape_is, w)) ∙ split_is
 
     module _ (h : to < length s) where
-      pub host_other : r ≡ true → (get_or s to 0 ≡ 46 → ⊥) → false ≡ is_host s
+      host_other : r ≡ true → (get_or s to 0 ≡ 46 → ⊥) → false ≡ is_host s
       host_other w n =
           sym (rw (drop-cons s to 0 h) (bad_first (take_while is_label_byte (drop from s)) (drop (suc to) s) (get_or s to 0)
           (stopped (get_or s to 0) (drop (suc to) s) (drop-cons s to 0 h)) n))
           ∙ split_is
 
-      pub host_more : r ≡ true → get_or s to 0 ≡ 46 → HostFrom s (to + 1)
+      host_more : r ≡ true → get_or s to 0 ≡ 46 → HostFrom s (to + 1)
       unfolding all
       host_more w e = record {
         inside = omega (arith, host_part_end);
         is = sym (rw (add-one, drop-cons s to 0 h, e, on_first_here 46 (take_while is_label_byte (drop from s)) (drop (suc to) s), shape_is, w)) ∙ split_is;
       }
+
+-- ---- the same by a table that is lent
+
+pub host_anyhow : {classes s : Bytes} {r : Bool} → r ≡ is_host s → HostBy classes s r
+host_anyhow e = record { is = λ C. e }
+
+pub record HostFromBy (classes s : Bytes) (from : ℕ) : Type 0 where
+  pub inside : from ≤ length s
+  pub is : Classifies classes → HostFrom s from
+
+pub by_starts : (classes s : Bytes) → 1 ≤ length s → length s ≤ 253 → HostFromBy classes s 0
+by_starts classes s h k = record { inside = omega arith; is = λ C. host_starts s h k }
+
+module _ {classes s : Bytes} {from to : ℕ} (H : HostFromBy classes s from) (L : LabelEnds classes s from to) where
+  module _ {r : Bool} (t : r ≡ is_shaped (take (to - from) (drop from s))) where
+    pub by_misshapen : r ≡ false → HostBy classes s false
+    by_misshapen w = record { is = λ C. host_misshapen (H.is C) (L.is C) t w }
+
+    pub by_ends : r ≡ true → length s ≤ to → HostBy classes s true
+    by_ends w h = record { is = λ C. host_ends (H.is C) (L.is C) t w h }
+
+    module _ (h : to < length s) (w : r ≡ true) where
+      pub by_other : (get_or s to 0 ≡ 46 → ⊥) → HostBy classes s false
+      by_other n = record { is = λ C. host_other (H.is C) (L.is C) t h w n }
+
+      pub by_more : get_or s to 0 ≡ 46 → HostFromBy classes s (to + 1)
+      by_more e = record { inside = omega arith; is = λ C. host_more (H.is C) (L.is C) t h w e }

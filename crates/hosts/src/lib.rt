@@ -4,17 +4,25 @@
 ghost use Rattle.std.specs.List.{list_all};
 ghost use Rattle.std.specs.Prelude.{◌≡◌, ◌≤◌, length, drop};
 ghost use Rattle.ascii.specs.Ascii.{is_digit, last_of};
-ghost use Rattle.hosts.specs.Host.{labels, is_label_byte, is_shaped, is_host, is_address};
+ghost use Rattle.hosts.specs.Host.{labels, is_shaped, is_host, is_address};
+ghost use Rattle.hosts.specs.code.Lent.{has_label_class, LabelEnds, HostBy};
 ghost use Rattle.hosts.specs.code.Place.{Stands, is_boundary, ends_at_label};
 
 use ascii::classes::Classes;
 
-// A letter, digit or hyphen. The classes are lent, here and below.
-fn is_label_byte(classes: &Classes, b: u8) -> bool
-    ensures { result ≡ is_label_byte b }
+// A letter, digit or hyphen by a table of classes, which is lent, here and below.
+fn is_label_byte(classes: &[u8; 256], b: u8) -> bool
+    ensures { result ≡ has_label_class classes.now b }
 {
     // 0 letters, 1 digits, 2 the hyphen, 3 the dot
-    classes.class_of(b) < 3
+    classes[usize::from(b)] < 3
+}
+
+// Where the letters, digits and hyphens from a place on end.
+fn label_end(classes: &[u8; 256], s: &[u8], from: usize) -> usize
+    ensures { LabelEnds classes.now s.now from result }
+{
+    ascii::run_end(s, from, |b| is_label_byte(classes, b))
 }
 
 // 1 to 63 bytes, no hyphen first or last.
@@ -41,13 +49,14 @@ fn is_shaped(s: &[u8]) -> bool
 pub fn is_host(s: &[u8]) -> bool
     ensures { result ≡ is_host s.now }
 {
-    is_host_by(&Classes::new(), s)
+    let classes = Classes::new();
+    is_host_by(classes.table(), s)
 }
 
-// The same by classes that are lent. A loop that goes on from where a label ends: `split` with `all` reads each byte twice, and takes
+// The same by a table of classes that is lent. A loop that goes on from where a label ends: `split` with `all` reads each byte twice, and takes
 // 1.2 to 1.8 times as long (the two in Rust).
-pub fn is_host_by(classes: &Classes, s: &[u8]) -> bool
-    ensures { result ≡ is_host s.now }
+pub fn is_host_by(classes: &[u8; 256], s: &[u8]) -> bool
+    ensures { HostBy classes.now s.now result }
 {
     if s.len() < 1 {
         return false;
@@ -57,7 +66,7 @@ pub fn is_host_by(classes: &Classes, s: &[u8]) -> bool
     }
     let mut from = 0;
     loop {
-        let to = ascii::run_end(s, from, |b| is_label_byte(classes, b));
+        let to = label_end(classes, s, from);
         if is_shaped(&s[from..to]) {
             if s.len() <= to {
                 return true;

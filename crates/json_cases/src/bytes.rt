@@ -1,26 +1,14 @@
 // Every byte in a string, raw and behind a backslash, and every two bytes.
 use super::tally::Tally;
-use super::texts::{is_readable, put};
+use super::texts::Text;
 
-// A string of these two bytes.
-fn two(a: u8, b: u8) -> bool {
-    let mut buf_space = [0u8; 1024];
-    let buf: &mut [u8] = &mut buf_space;
-    let i = put(buf, 0, b'"');
-    let j = put(buf, i, a);
-    let k = put(buf, j, b);
-    let l = put(buf, k, b'"');
-    is_readable(buf, l)
-}
-
-// A string of this byte.
-fn raw(b: u8) -> bool {
-    let mut buf_space = [0u8; 1024];
-    let buf: &mut [u8] = &mut buf_space;
-    let i = put(buf, 0, b'"');
-    let j = put(buf, i, b);
-    let k = put(buf, j, b'"');
-    is_readable(buf, k)
+// A string of these bytes is readable.
+fn is_string(bytes: &[u8]) -> bool {
+    let mut text = Text::new();
+    text.put(b'"');
+    text.put_all(bytes);
+    text.put(b'"');
+    text.is_readable()
 }
 
 // ASCII, no control byte, quotation mark or backslash.
@@ -50,7 +38,7 @@ fn is_tail(b: u8) -> bool {
 pub fn all_raw() -> Tally {
     let mut t = Tally::none();
     for b in 0u16..256 {
-        t = t.tell(raw(b as u8) == is_plain(b as u8));
+        t = t.tell(is_string(&[b as u8]) == is_plain(b as u8));
     }
     t
 }
@@ -58,7 +46,7 @@ pub fn all_raw() -> Tally {
 pub fn all_escaped() -> Tally {
     let mut t = Tally::none();
     for b in 0u16..256 {
-        t = t.tell(two(b'\\', b as u8) == is_short_escape(b as u8));
+        t = t.tell(is_string(&[b'\\', b as u8]) == is_short_escape(b as u8));
     }
     t
 }
@@ -68,7 +56,7 @@ pub fn all_pairs() -> Tally {
     for n in 0u32..65536 {
         let a = (n / 256) as u8;
         let b = (n % 256) as u8;
-        t = t.tell(two(a, b) == is_pair(a, b));
+        t = t.tell(is_string(&[a, b]) == is_pair(a, b));
     }
     t
 }

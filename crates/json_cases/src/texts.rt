@@ -1,72 +1,78 @@
-// Texts built in a buffer of 1,024 bytes, of which the first so many are used: there is no heap. What does not fit is left out.
+// Texts built in a buffer: there is no heap.
 use json_text::Decoded;
 use normal_forms::write_bytes;
 
-// One byte at a place; the place behind it.
-pub fn put(buf: &mut [u8], at: usize, b: u8) -> usize {
-    write_bytes(&[b], buf, at)
+// The first bytes of a buffer. What does not fit is left out.
+#[derive(Clone, Copy)]
+pub struct Text {
+    space: [u8; 1024],
+    len: usize,
 }
 
-pub fn put_all(buf: &mut [u8], at: usize, bytes: &[u8]) -> usize {
-    write_bytes(bytes, buf, at)
-}
+const DIGITS: [u8; 16] = *b"0123456789abcdef";
 
-// The bytes, n times.
-pub fn put_times(buf: &mut [u8], at: usize, bytes: &[u8], n: usize) -> usize {
-    let mut to = at;
-    for _ in 0..n {
-        to = put_all(buf, to, bytes);
+// The last hexadecimal digit of n; letters in lower case, or in upper.
+fn digit(n: u16, upper: bool) -> u8 {
+    let lower = DIGITS[(n % 16) as usize];
+    if upper {
+        return lower.to_ascii_uppercase();
     }
-    to
+    lower
 }
 
-// A hexadecimal digit; letters in lower case, or in upper.
-fn digit(n: u8, upper: bool) -> u8 {
-    if n < 10 {
-        return b'0' + n;
-    }
-    if n < 16 {
-        if upper {
-            return b'A' + (n - 10);
+impl Text {
+    pub fn new() -> Text {
+        Text {
+            space: [0u8; 1024],
+            len: 0,
         }
-        return b'a' + (n - 10);
     }
-    b'?'
-}
 
-// `\u` and the four digits of n.
-pub fn put_escape(buf: &mut [u8], at: usize, n: u16, upper: bool) -> usize {
-    let a = put_all(buf, at, b"\\u");
-    let b = put(buf, a, digit((n / 4096) as u8, upper));
-    let c = put(buf, b, digit((n / 256 % 16) as u8, upper));
-    let d = put(buf, c, digit((n / 16 % 16) as u8, upper));
-    put(buf, d, digit((n % 16) as u8, upper))
-}
+    pub fn put_all(&mut self, bytes: &[u8]) {
+        self.len = write_bytes(bytes, &mut self.space, self.len);
+    }
 
-pub fn is_readable(buf: &[u8], n: usize) -> bool {
-    if n <= buf.len() {
-        return json_values::is_readable(&buf[0..n]);
+    // One byte more.
+    pub fn put(&mut self, b: u8) {
+        self.put_all(&[b]);
     }
-    false
-}
 
-// The text is one string, which decodes to the first m bytes of `content`, and is held if these are at most 512.
-pub fn decodes_to(buf: &[u8], n: usize, content: &[u8], m: usize) -> bool {
-    if n > buf.len() {
-        return false;
+    // The bytes, n times.
+    pub fn put_times(&mut self, bytes: &[u8], n: usize) {
+        for _ in 0..n {
+            self.put_all(bytes);
+        }
     }
-    if m > content.len() {
-        return false;
+
+    // `\u` and the four digits of n.
+    pub fn put_escape(&mut self, n: u16, upper: bool) {
+        self.put_all(b"\\u");
+        self.put(digit(n / 4096, upper));
+        self.put(digit(n / 256, upper));
+        self.put(digit(n / 16, upper));
+        self.put(digit(n, upper));
     }
-    if !json_values::is_readable(&buf[0..n]) {
-        return false;
+
+    pub fn bytes(&self) -> &[u8] {
+        ascii::prefix(&self.space, self.len)
     }
-    let mut decoded = Decoded::new();
-    let Some(_) = decoded.decode_string(&buf[0..n], 0) else {
-        return false;
-    };
-    match decoded.held() {
-        Some(bytes) => ascii::equal(bytes, &content[0..m]),
-        None => m > 512,
+
+    pub fn is_readable(&self) -> bool {
+        json_values::is_readable(self.bytes())
+    }
+
+    // The text is one string, which decodes to this content, and is held if that has at most 512 bytes.
+    pub fn decodes_to(&self, content: &Text) -> bool {
+        if !self.is_readable() {
+            return false;
+        }
+        let mut decoded = Decoded::new();
+        let Some(_) = decoded.decode_string(self.bytes(), 0) else {
+            return false;
+        };
+        match decoded.held() {
+            Some(bytes) => ascii::equal(bytes, content.bytes()),
+            None => content.len > 512,
+        }
     }
 }

@@ -4,29 +4,26 @@
 
 use full_reads::read_full;
 use json_text::Decoded;
-use normal_forms::write_bytes;
+use normal_forms::Writer;
 use std::io;
 use std::io::Read;
 
 const DIGITS: [u8; 16] = *b"0123456789abcdef";
 
-fn put_byte(line: &mut [u8], at: usize, b: u8) -> usize {
-    let digits = [DIGITS[(b / 16) as usize], DIGITS[(b % 16) as usize]];
-    write_bytes(&digits, line, at)
+fn put_byte(line: &mut Writer, b: u8) {
+    line.write(&[DIGITS[(b / 16) as usize], DIGITS[(b % 16) as usize]]);
 }
 
-fn put_hex(line: &mut [u8], at: usize, bytes: &[u8]) -> usize {
-    let mut to = at;
+fn put_hex(line: &mut Writer, bytes: &[u8]) {
     for b in bytes {
-        to = put_byte(line, to, *b);
+        put_byte(line, *b);
     }
-    to
 }
 
-fn put_decoded(line: &mut [u8], at: usize, decoded: &Decoded) -> usize {
+fn put_decoded(line: &mut Writer, decoded: &Decoded) {
     match decoded.held() {
-        Some(bytes) => put_hex(line, at, bytes),
-        None => write_bytes(b"long", line, at),
+        Some(bytes) => put_hex(line, bytes),
+        None => line.write(b"long"),
     }
 }
 
@@ -46,11 +43,15 @@ fn answer(rt: &impl Print, s: &[u8]) -> io::Result<bool> {
         return Ok(false);
     };
     let mut space = [0u8; 1040];
-    let line: &mut [u8] = &mut space;
-    let a = write_bytes(b"string ", line, 0);
-    let b = put_decoded(line, a, &decoded);
-    let c = write_bytes(b"\n", line, b);
-    rt.write_all(ascii::prefix(line, c))?;
+    let mut line = Writer {
+        out: &mut space,
+        at: 0,
+    };
+    line.write(b"string ");
+    put_decoded(&mut line, &decoded);
+    line.write(b"\n");
+    let n = line.at;
+    rt.write_all(ascii::prefix(&space, n))?;
     Ok(true)
 }
 

@@ -1,13 +1,13 @@
 -- A string as it is decoded: what is held of it.
-use Rattle.std.specs.Prelude.{if◌then◌else◌, Option, None, Some, option_map, unwrap_or}
+use Rattle.std.specs.Prelude.{Option, None, Some, option_map, unwrap_or, MatchOption}
 use mathlib.Core.Path.{◌≡◌, refl, ap, sym, ◌∙◌}
 use mathlib.Core.Bool.{Bool, true, false, not}
 use mathlib.Core.List.{[], ◌∷◌, ◌++◌, append_assoc, append-nil}
 use Prim.Native.Nat.{ℕ, suc, ◌+◌, ◌-◌, ◌/◌, ◌%◌, ◌≤◌, ◌<◌}
 use native.Mathlib.Numerals.{add-one}
 use native.Mathlib.Omega.{arith}
-use borrow.Author.Tests.{le-leb, lt-leb, lt-ltb, le-ltb, ltb-false, leb-true, leb-false}
-use lib.Dec.{eqb, leb, ltb}
+use borrow.Author.Tests.{le-leb, lt-leb, lt-ltb, le-ltb, leb-true, leb-false}
+use lib.Dec.{eqb, leb}
 use Rattle.std.specs.Option.{option_eq}
 use lib.ListN.{length, get_or, take, drop, set, length-append, length-take, length-drop}
 use lib.Seq.{take_all, take-suc, take-suc-set, length-take-le, take-append_seam}
@@ -43,61 +43,72 @@ push_push (Some t) x y = go (leb (length (t ++ x)) 512) refl
         rw (fit_not (t ++ x) h, ← append_assoc) (sym (fit_not ((t ++ x) ++ y) (omega (arith, length-append (t ++ x) y))))
 
 module _ (d : Decoded) where
-  pub held_over : 512 < d.len → None ≡ content d
+  pub held_over : d.len ≡ None → None ≡ content d
   unfolding content
-  held_over h = rw (lt-ltb 512 d.len h)
+  held_over h = rw h
 
-  pub held_all : {p : Bytes} → d.len ≤ 512 → p ≡ take d.len d.bytes → Some p ≡ content d
+  pub held_all : {n : ℕ} {p : Bytes} → d.len ≡ Some n → p ≡ take n d.bytes → Some p ≡ content d
   unfolding content
-  held_all h e = rw (le-ltb 512 d.len h, e)
+  held_all h e = rw (h, e)
 
-  pub holds_none : d.len ≡ 0 → content d ≡ Some []
+  pub holds_none : d.len ≡ Some 0 → content d ≡ Some []
   unfolding content
   holds_none h = rw h
 
+  -- what so many bytes hold, or none
+  abbrev of_length : Option ℕ → Option Bytes
+  of_length n = option_map (λ k. take k d.bytes) n
+
+  few : (n : ℕ) → length (take n d.bytes) ≤ 512
+  few n = simp length-take (omega (arith, d.sized))
+
   pub content_short : length (unwrap_or (content d) []) ≤ 512
   unfolding content
-  content_short = go (ltb 512 d.len) refl
+  content_short = go d.len
     where
-      go : (u : Bool) → ltb 512 d.len ≡ u → length (unwrap_or (if u then None else Some (take d.len d.bytes)) []) ≤ 512
-      go true e = omega arith
-      go false e = simp length-take (omega (arith, ltb-false 512 d.len e))
+      go : (u : Option ℕ) → length (unwrap_or (of_length u) []) ≤ 512
+      go None = omega arith
+      go (Some n) = few n
 
   push_nil : push (content d) [] ≡ content d
   unfolding content
-  push_nil = go (ltb 512 d.len) refl
+  push_nil = go d.len
     where
-      go : (u : Bool) → ltb 512 d.len ≡ u → push (if u then None else Some (take d.len d.bytes)) [] ≡ (if u then None else Some (take d.len d.bytes))
-      go true e = unfold push in refl
-      go false e = unfold push in rw append-nil (fit_is (take d.len d.bytes) (simp length-take (omega (arith, ltb-false 512 d.len e))))
+      go : (u : Option ℕ) → push (of_length u) [] ≡ of_length u
+      go None = unfold push in refl
+      go (Some n) = unfold push in rw append-nil (fit_is (take n d.bytes) (few n))
 
   -- another string in the place of it
-  module _ (s : Bytes) (l : d.len ≡ length s) where
-    pub hold_over : 512 < length s → content d ≡ fit s
-    hold_over h = sym (held_over (omega arith)) ∙ sym (fit_not s h)
+  module _ (s : Bytes) where
+    pub hold_over : d.len ≡ None → 512 < length s → content d ≡ fit s
+    hold_over l h = sym (held_over l) ∙ sym (fit_not s h)
 
-    pub hold_all : (p t : Bytes) → length s ≤ 512 → d.bytes ≡ p ++ t → p ≡ s → content d ≡ fit s
-    hold_all p t h e w = sym (held_all (omega arith) (sym (rw (l, e, w) (take-append_seam s t)))) ∙ sym (fit_is s h)
+    pub hold_all : {n : ℕ} (p t : Bytes) → d.len ≡ Some n → n ≡ length s → length s ≤ 512 → d.bytes ≡ p ++ t → p ≡ s → content d ≡ fit s
+    hold_all p t l j h e w = sym (held_all l (sym (rw (j, e, w) (take-append_seam s t)))) ∙ sym (fit_is s h)
 
 -- ---- one byte more
 
-module _ (d e : Decoded) (b : ℕ) where
-  pub put_full : 512 ≤ d.len → 512 < e.len → content e ≡ push (content d) (b ∷ [])
-  put_full k m = sym (held_over e m) ∙ sym (no_room (ltb 512 d.len) refl)
-    where
-      no_room : (u : Bool) → ltb 512 d.len ≡ u → push (content d) (b ∷ []) ≡ None
-      no_room true f = unfold content push in (rw f)
-      no_room false f =
-          let m : d.len ≤ 512 = ltb-false 512 d.len f in
-          unfold content push in (rw f (fit_not (take d.len d.bytes ++ b ∷ []) (omega (arith, length-append (take d.len d.bytes) (b ∷ []), length-take-le d.len d.bytes (omega (arith, d.sized))))))
+module _ (d : Decoded) (b : ℕ) where
+  pub put_over : d.len ≡ None → content d ≡ push (content d) (b ∷ [])
+  put_over h = unfold content push in (rw h)
 
-  pub put_one : d.len < 512 → e.len ≡ d.len + 1 → e.bytes ≡ set d.bytes d.len b → content e ≡ push (content d) (b ∷ [])
-  put_one h l s =
-      let t : take d.len d.bytes ++ b ∷ [] ≡ take e.len e.bytes = sym (rw (l, s, add-one d.len) (take-suc-set d.bytes d.len b (omega (arith, d.sized)))) in
-      sym (held_all e (omega arith) t) ∙ sym (fitting (length-append (take d.len d.bytes) (b ∷ [])))
+module _ (d e : Decoded) (b : ℕ) {n : ℕ} (h : d.len ≡ Some n) where
+  pub put_full : 512 ≤ n → e.len ≡ None → content e ≡ push (content d) (b ∷ [])
+  put_full k m = sym (held_over e m) ∙ sym no_room
     where
-      fitting : length (take d.len d.bytes ++ b ∷ []) ≡ length (take d.len d.bytes) + 1 → push (content d) (b ∷ []) ≡ Some (take d.len d.bytes ++ b ∷ [])
-      fitting k = unfold content push in (rw (le-ltb 512 d.len (omega arith)) (fit_is (take d.len d.bytes ++ b ∷ []) (omega (arith, length-take-le d.len d.bytes (omega (arith, d.sized))))))
+      long : length (take n d.bytes ++ b ∷ []) ≡ 513
+      long = let z : length (take n d.bytes) ≡ 512 = simp length-take (omega (arith, d.sized)) in omega (arith, length-append (take n d.bytes) (b ∷ []))
+
+      no_room : push (content d) (b ∷ []) ≡ None
+      no_room = unfold content push in (rw h (fit_not (take n d.bytes ++ b ∷ []) (omega (arith, long))))
+
+  pub put_one : n < 512 → e.len ≡ Some (n + 1) → e.bytes ≡ set d.bytes n b → content e ≡ push (content d) (b ∷ [])
+  put_one k l s =
+      let t : take n d.bytes ++ b ∷ [] ≡ take (n + 1) e.bytes = sym (rw (s, add-one n) (take-suc-set d.bytes n b (omega (arith, d.sized)))) in
+      sym (held_all e l t) ∙ sym fitting
+    where
+      fitting : push (content d) (b ∷ []) ≡ Some (take n d.bytes ++ b ∷ [])
+      fitting = unfold content push in (rw h (fit_is (take n d.bytes ++ b ∷ []) (omega (arith, length-append (take n d.bytes) (b ∷ []), length-take-le n d.bytes (omega (arith, d.sized))))))
 
 -- the first bytes
 pub put_first : (x : Bytes) → push (Some []) x ≡ fit x
@@ -215,7 +226,7 @@ module _ {s : Bytes} {from : ℕ} {b : Option ℕ} {u : Bool} (g : Peeked s from
   unfolding read_string
   decode_wrong before after h = reads_bad (then_bad _ _ _ _ (one_no g _ (isnt_this b 34 (omega arith) t h)))
 
-  pub decode_starts : (d : Decoded) → u ≡ false → d.len ≡ 0 → Decodes s from (content d) (from + 1)
+  pub decode_starts : (d : Decoded) → u ≡ false → d.len ≡ Some 0 → Decodes s from (content d) (from + 1)
   unfolding read_string
   decode_starts d h l =
       let z : read_at read_string s from ≡ read_at (read_chars (suc (length (drop (from + 1) s)))) s (from + 1) =
@@ -274,8 +285,14 @@ module _ (s : Bytes) (from : ℕ) (name : Bytes) {h : Option Bytes} {r : Option 
         go f = unfold content_of in (rw f.1 (sym (H.is f.1 ∙ put_first f.0)))
 
     module _ {T : Type 0} (f : T → Bytes) {q : Option T} (e : option_map f q ≡ h) where
-      pub name_over : q ≡ None → false ≡ is_text (content_of (read_at read_string s from)) name
+      name_over : q ≡ None → false ≡ is_text (content_of (read_at read_string s from)) name
       name_over l = sym (ap (λ (x : Option Bytes). is_text x name) (name_held ∙ sym e ∙ ap (option_map f) l) ∙ unfold is_text in refl)
 
-      pub name_told : {t : T} {u : Bool} → q ≡ Some t → u ≡ same (f t) name → u ≡ is_text (content_of (read_at read_string s from)) name
+      name_told : {t : T} {u : Bool} → q ≡ Some t → u ≡ same (f t) name → u ≡ is_text (content_of (read_at read_string s from)) name
       name_told l w = w ∙ sym (ap (λ (x : Option Bytes). is_text x name) (name_held ∙ sym e ∙ ap (option_map f) l) ∙ unfold is_text in refl)
+
+    -- where the test of what is held tells P of it
+    pub name_tested : {T : Type 0} (f : T → Bytes) (q : Option T) {u : Bool} {P : T → Type 0} → option_map f q ≡ h → MatchOption q (u ≡ false) P
+        → ((t : T) → P t → u ≡ same (f t) name) → u ≡ is_text (content_of (read_at read_string s from)) name
+    name_tested f None e m told = m ∙ name_over f e refl
+    name_tested f (Some t) e m told = name_told f e refl (told t m)

@@ -11,8 +11,8 @@ use super::unescaped::skip_unescaped;
 #[derive(Clone, Copy)]
 pub struct Decoded {
     bytes: [u8; 512],
-    // above 512 where the string has more: an Option would take a second test at each byte
-    len: usize,
+    // none where the string has more
+    len: Option<usize>,
     ghost sized: { length bytes ≡ 512 },
 }
 
@@ -29,7 +29,7 @@ impl Decoded {
     {
         Decoded {
             bytes: [0u8; 512],
-            len: 0,
+            len: Some(0),
         }
     }
 
@@ -37,38 +37,39 @@ impl Decoded {
     pub fn held(&self) -> Option<&[u8]>
         ensures { option_map (λ s. s.now) result ≡ content self.now }
     {
-        if 512 < self.len {
-            return None;
-        }
-        Some(ascii::prefix(&self.bytes, self.len))
+        let n = self.len?;
+        Some(ascii::prefix(&self.bytes, n))
     }
 
     // The string is this one, which is written without escapes.
     pub fn hold(&mut self, s: &[u8])
         ensures { content self.new ≡ fit s.now }
     {
+        self.len = None;
         let n = s.len();
-        self.len = n;
-        if 512 < n {
-            return;
+        if n <= 512 {
+            self.len = Some(n);
+            self.bytes[0..n].copy_from_slice(s);
         }
-        self.bytes[0..n].copy_from_slice(s);
     }
 
     // One byte more.
     fn put(&mut self, b: u8)
         ensures { content self.new ≡ push (content self.old) (b ∷ []) }
     {
-        let n = self.len;
-        if n >= 512 {
-            self.len = 513;
+        let Some(n) = self.len else {
+            return;
+        };
+        if 512 <= n {
+            self.len = None;
             return;
         }
         self.bytes[n] = b;
-        self.len = n + 1;
+        self.len = Some(n + 1);
     }
 
-    // The bytes of a part of s more, one by one, since any of them may be the first that is not held.
+    // The bytes of a part of s more, one by one: a part is one character, of at most four bytes, and a copy of them all would
+    // need the bound of the length besides.
     fn put_part(&mut self, s: &[u8], from: usize, to: usize)
         ensures { content self.new ≡ push (content self.old) (take (to - from) (drop from s.now)) }
     {
@@ -125,7 +126,7 @@ impl Decoded {
         if byte_at(s, from) != Some(b'"') {
             return None;
         }
-        self.len = 0;
+        self.len = Some(0);
         let mut i = from + 1;
         // Character after character, each of which says where the next one begins. The loop of `skip_chars` with another step: the
         // closure that a loop of both would take changes what is held, and its contract is longer than the loop.
@@ -146,8 +147,7 @@ pub fn is_name(s: &[u8], from: usize, name: &[u8]) -> bool
     let Some(_) = decoded.decode_string(s, from) else {
         return false;
     };
-    match decoded.held() {
-        None => false,
-        Some(string) => ascii::equal(string, name),
-    }
+    decoded
+        .held()
+        .is_some_and(|string| ascii::equal(string, name))
 }

@@ -5,8 +5,8 @@ ghost use Rattle.json_text.specs.code.Places.{read_at, point_of, hex_at};
 
 use super::{byte_at, skip_word};
 
-// HEXDIG (RFC 5234, B.1), letters in either case (RFC 8259, section 7): its number. By hand, since
-// `char::to_digit` takes a character and gives a wider number, each of which would have to be made of a byte, or into one.
+// HEXDIG (RFC 5234, B.1), letters in either case (RFC 8259, section 7): its number. A match over
+// ranges of bytes, as document 01's "Places and their forms" names it; `char::to_digit` is of characters.
 fn hex_value(b: u8) -> Option<u8>
     ensures { result ≡ hex_value b }
 {
@@ -22,10 +22,8 @@ fn hex_value(b: u8) -> Option<u8>
 fn hex_at(s: &[u8], at: usize) -> Option<u8>
     ensures { result ≡ hex_at s.now at }
 {
-    match byte_at(s, at) {
-        Some(b) => hex_value(b),
-        None => None,
-    }
+    let b = byte_at(s, at)?;
+    hex_value(b)
 }
 
 // 4HEXDIG: four hexadecimal digits.
@@ -40,7 +38,7 @@ fn read_hex(s: &[u8], from: usize) -> Option<(u32, usize)>
     let k = j + 1;
     let d = hex_at(s, k)?;
     Some((
-        a as u32 * 0x1000 + b as u32 * 0x100 + c as u32 * 0x10 + d as u32,
+        u32::from(a) * 0x1000 + u32::from(b) * 0x100 + u32::from(c) * 0x10 + u32::from(d),
         k + 1,
     ))
 }

@@ -21,7 +21,8 @@ pub fn skip_range(s: &[u8], from: usize, lo: u8, hi: u8) -> Option<usize>
     Some(from + 1)
 }
 
-// A byte from lo to hi, and one from 0x80 to 0xBF.
+// A byte from lo to hi, and one from 0x80 to 0xBF. Beside it a second function for two of these: one for both
+// would take their number, and branch on it.
 fn skip_with_tail(s: &[u8], from: usize, lo: u8, hi: u8) -> Option<usize>
     ensures { result ≡ place_of (read_at (then_tail lo hi) s.now from) }
 {

@@ -15,7 +15,9 @@ use Rattle.json_text.specs.Lexical.{ws}
 use Rattle.json_text.specs.code.Places.{Peeked, read_at, place_of}
 use Rattle.json_text.proofs.Steps.{here, in_text, is_this, not_this, isnt_this, isnt_not, told_not, on, then_bad, one_yes, one_no, next_yes, next_no, give_at, counted_at, map_give, no_fall, found, missed}
 use Rattle.json_values.specs.Json.{items, listed}
-use Rattle.json_values.specs.code.Folds.{reading, Relates, GoesOn, Ends, Folded, before_all, one_behind, Kind, Item, FoldsListed, Unheld, SkipsListed}
+use Rattle.json_values.specs.code.Kinds.{Item}
+use Rattle.json_values.specs.declared.Kind.{Kind}
+use Rattle.json_values.specs.code.Folds.{reading, Relates, GoesOn, Ends, Folded, before_all, one_behind, FoldsListed, Unheld, SkipsListed}
 use Rattle.json_values.proofs.Readings.{is_read, no_read, was_read, not_read}
 
 -- Before the place `at` stand the items `done`, of which x is held; the whole is what the list reads to. `fuel` bounds the items to come.

@@ -1,2 +1,3 @@
 pub mod MemberName
+pub mod Kinds
 pub mod Folds

@@ -8,6 +8,39 @@ ghost use Rattle.json_values.specs.code.MemberName.{member_name};
 ghost use Rattle.json_values.specs.code.Folds.{reading, GoesOn, Unheld, FoldsListed, SkipsListed};
 ghost use Rattle.json_text.specs.code.Places.{read_at, place_of};
 
+// An array or an object: the two kinds of values with elements.
+#[derive(Clone, Copy)]
+pub enum Kind {
+    Array,
+    Object,
+}
+
+impl Kind {
+    ghost use Rattle.json_values.specs.code.Kinds.{opening, closing};
+
+    // The opening bracket.
+    #[tactic(auto, unfolding(crate::specs::code::Kinds::opening))]
+    pub fn opening(self) -> u8
+        ensures { result ≡ opening self }
+    {
+        match self {
+            Kind::Array => b'[',
+            Kind::Object => b'{',
+        }
+    }
+
+    // The closing bracket.
+    #[tactic(auto, unfolding(crate::specs::code::Kinds::closing))]
+    pub fn closing(self) -> u8
+        ensures { result ≡ closing self }
+    {
+        match self {
+            Kind::Array => b']',
+            Kind::Object => b'}',
+        }
+    }
+}
+
 // A value with at most `left` arrays and objects open together.
 #[cycle(skip_value)]
 pub fn skip_value(s: &[u8], from: usize, left: usize) -> Option<usize>

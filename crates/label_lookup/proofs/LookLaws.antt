@@ -2,10 +2,10 @@
 use mathlib.Core.Path.{◌≡◌, refl, sym, ap, ◌∙◌}
 use mathlib.Core.Bool.{Bool, true, false}
 use mathlib.Core.List.{List, []}
-use Rattle.std.specs.Prelude.{Option, None, Some}
-use Prim.Native.Nat.{ℕ, ◌+◌, ◌≤◌, ◌<◌}
+use Rattle.std.specs.Prelude.{Option, None, Some, is_some}
+use Prim.Native.Nat.{ℕ, ◌+◌, ◌-◌, ◌≤◌, ◌<◌}
 use native.Mathlib.Omega.{arith}
-use lib.ListN.{length}
+use lib.ListN.{length, take, drop}
 use lib.Seq.{drop-length}
 use lib.Dec.{leb, ltb}
 use borrow.Author.Tests.{le-leb, le-ltb, lt-ltb, ltb-true, leb-true}
@@ -13,27 +13,24 @@ use Rattle.ascii.specs.Ascii.{Bytes, is_none, last_of, join_with}
 use Rattle.hosts.specs.Host.{labels, is_host, is_address}
 use Rattle.hosts.specs.code.Place.{Stands}
 use Rattle.hosts.proofs.Ends.{both_ways}
+use Rattle.hosts.proofs.Places.{rest_whole}
 use Rattle.suffix.specs.Suffix.{Rule, read_table, private_label, or_empty}
 use Rattle.suffix.specs.code.Pass.{best_of, size_of, LabelAt}
 use Rattle.suffix.specs.code.Deeper.{deeper_in, is_deeper}
-use Rattle.suffix.specs.code.Depth.{deepest, deeper_than}
-use Rattle.suffix.specs.declared.Sizes.{Sizes}
+use Rattle.suffix.specs.code.Depth.{deepest}
 use Rattle.suffix.proofs.Climbs.{any_depth}
 use Rattle.suffix.proofs.Speed.{last_names}
-use Rattle.suffix.proofs.Answers.{at_malformed, at_address, at_bad, at_label, at_whole, labelled}
+use Rattle.suffix.proofs.Answers.{at_malformed, at_address, at_bad, at_whole, labelled}
 use Rattle.suffix.proofs.Lines.{is_told}
 use borrow.Author.Rules.{rules}
 use Rattle.std.proofs.lemmas.Option.{none-some}
 use Rattle.suffix.proofs.Owned.{label_some}
-use Rattle.label_lookup.specs.code.Answer.{depths_of, LabelFound, LookupIs, unread, looked_up}
+use Rattle.label_lookup.specs.code.Answer.{depths_of, LabelFound, LookupIs, unread, unlabelled, looked_up}
 use Rattle.label_lookup.specs.declared.Lookup.{Lookup}
 use Rattle.label_lookup.specs.declared.Depths.{Depths}
 use Rattle.label_lookup.proofs.RoundLaws.{depth_in, best_in}
 
 -- ---- the answer
-
-abbrev pub lookup : ℕ → Option Sizes → Lookup
-lookup r d = record { start = r; deeper = d }
 
 no_label : (table host : Bytes) → LabelAt table host (length host) → private_label table host ≡ None
 no_label table host L = go (private_label table host) refl (sym (drop-length host) ∙ L.is)
@@ -42,15 +39,7 @@ no_label table host L = go (private_label table host) refl (sym (drop-length hos
     go None p e = refl
     go (Some l) p e = absurd (omega (arith, ap length e, label_some table host l p))
 
-abbrev lookup_in : Option Lookup → Lookup
-lookup_in None = record { start = 0; deeper = None }
-lookup_in (Some l) = l
-
 module _ (table host : Bytes) where
-  none_found : LabelAt table host (length host) → LabelFound table host (lookup (length host) None)
-  unfolding deeper_than
-  none_found L = record { place = L; deeper_is = rw (no_label table host L); found = λ z t. absurd (none-some z t) }
-
   pub lookup_bad : {q : Option Depths} → q ≡ depths_of (labels host) (read_table table) → q ≡ None → LookupIs table host None
   lookup_bad t w = unread (go (read_table table) (sym w ∙ t))
     where
@@ -62,22 +51,6 @@ module _ (table host : Bytes) where
   unfolding depths_of
   good_table f None e = let z : ◌≡◌ {A = ℕ} 0 1 = cc in absurd (omega arith)
   good_table f (Some rs) e = refl
-
-  pub start_bad : {q : Option Lookup} → LookupIs table host q → q ≡ None → LabelAt table host (length host)
-  start_bad (unread t) e = at_bad table host {q = best_of (labels host) (read_table table)} refl (rw t none_best)
-    where
-      none_best : best_of (labels host) None ≡ None
-      none_best = unfold best_of in refl
-  start_bad (looked_up t L) e = let z : ◌≡◌ {A = ℕ} 0 1 = cc in absurd (omega arith)
-
-  -- what a lookup tells of the host
-  pub record Looked (l : Lookup) : Type 0 where
-    pub good : is_none (read_table table) ≡ false
-    pub label : LabelFound table host l
-
-  pub looked : {q : Option Lookup} {l : Lookup} → LookupIs table host q → q ≡ Some l → Looked l
-  looked (unread t) f = let z : ◌≡◌ {A = ℕ} 0 1 = cc in absurd (omega arith)
-  looked (looked_up t L) f = record { good = t; label = rw (← ap lookup_in f) L }
 
   pub to_best : (f : Depths) (o : Option (List Rule)) → Some f ≡ depths_of (labels host) o → Some f.sizes ≡ best_of (labels host) o
   unfolding best_of depths_of
@@ -109,43 +82,102 @@ module _ (table host : Bytes) where
     best : Some f.sizes ≡ best_of (labels host) (read_table table)
     best = to_best f (read_table table) t
 
-    pub lookup_malformed : {a : Bool} → a ≡ is_host host → a ≡ false → LookupIs table host (Some (lookup (length host) None))
-    lookup_malformed h h' = looked_up good_is (none_found (at_malformed table host h h'))
+    unlabelled_at : LabelAt table host (length host) → LookupIs table host (Some None)
+    unlabelled_at L = unlabelled good_is (no_label table host L)
 
-    pub lookup_address : {b : Bool} → b ≡ is_address (labels host) → b ≡ true → LookupIs table host (Some (lookup (length host) None))
-    lookup_address i i' = looked_up good_is (none_found (at_address table host i i'))
+    pub lookup_malformed : {a : Bool} → a ≡ is_host host → a ≡ false → LookupIs table host (Some None)
+    lookup_malformed h h' = unlabelled_at (at_malformed table host h h')
+
+    pub lookup_address : {b : Bool} → b ≡ is_address (labels host) → b ≡ true → LookupIs table host (Some None)
+    lookup_address i i' = unlabelled_at (at_address table host i i')
 
     module _ {n : ℕ} (s : n ≡ size_of f.sizes.exception f.sizes.most) (h : is_host host ≡ true) (i : is_address (labels host) ≡ false) where
-      pub lookup_whole : {k : ℕ} → k ≡ length (labels host) → k ≤ n → LookupIs table host (Some (lookup (length host) None))
-      lookup_whole c l = looked_up good_is (none_found (at_whole table host (sym h) refl (sym i) refl best refl s c l))
+      pub lookup_whole : {k : ℕ} → k ≡ length (labels host) → k ≤ n → LookupIs table host (Some None)
+      lookup_whole c l = unlabelled_at (at_whole table host (sym h) refl (sym i) refl best refl s c l)
 
-      module _ {r : ℕ} (l : n < length (labels host)) (S : Stands (last_of (n + 1) (labels host)) host r) where
-        place_is : LabelAt table host r
-        place_is = at_label table host (sym h) refl (sym i) refl best refl s refl l S
+      module _ {r : ℕ} (l : n < length (labels host)) (S : Stands (last_of (n + 1) (labels host)) host r) (x : Lookup) (p : x.label.now ≡ take (length host - r) (drop r host)) where
+        its_label : x.label.now ≡ join_with 46 (last_of (n + 1) (labels host))
+        its_label = p ∙ rest_whole host r ∙ S.is
 
-        past_is : ltb n f.depth ≡ deeper_than table (private_label table host)
-        past_is = leb_ltb n f.depth ∙ to_depth f (n + 1) (read_table table) t (omega arith) (omega arith)
-            ∙ sym (rw (labelled table host (sym h) refl (sym i) refl best refl s refl l) deep)
+        label_is : private_label table host ≡ Some x.label.now
+        label_is = labelled table host (sym h) refl (sym i) refl best refl s refl l ∙ ap Some (sym its_label)
+
+        past_is : ltb n f.depth ≡ is_deeper table x.label.now
+        past_is = leb_ltb n f.depth ∙ to_depth f (n + 1) (read_table table) t (omega arith) (omega arith) ∙ sym (rw its_label deep)
           where
-            deep : deeper_than table (Some (join_with 46 (last_of (n + 1) (labels host)))) ≡ deeper_in (last_of (n + 1) (labels host)) (read_table table)
-            deep = unfold deeper_than is_deeper in (ap (λ (ls : List Bytes). deeper_in ls (read_table table)) (last_names host (n + 1) (omega arith)))
+            deep : is_deeper table (join_with 46 (last_of (n + 1) (labels host))) ≡ deeper_in (last_of (n + 1) (labels host)) (read_table table)
+            deep = unfold is_deeper in (ap (λ (ls : List Bytes). deeper_in ls (read_table table)) (last_names host (n + 1) (omega arith)))
 
-        pub lookup_deeper : n < f.depth → LookupIs table host (Some (lookup r (Some f.sizes)))
-        lookup_deeper d = looked_up good_is (record {
-          place = place_is;
-          deeper_is = sym (lt-ltb n f.depth d) ∙ past_is;
-          found = λ z t. sym t ∙ best;
+        pub lookup_deeper : x.deeper ≡ Some f.sizes → n < f.depth → LookupIs table host (Some (Some x))
+        lookup_deeper e d = looked_up {l = x} good_is (record {
+          label_is = label_is;
+          deeper_is = ap is_some e ∙ sym (lt-ltb n f.depth d) ∙ past_is;
+          found = λ z t. sym t ∙ e ∙ best;
         })
 
-        pub lookup_label : f.depth ≤ n → LookupIs table host (Some (lookup r None))
-        lookup_label d = looked_up good_is (record {
-          place = place_is;
-          deeper_is = sym (le-ltb n f.depth d) ∙ past_is;
-          found = λ z t. absurd (none-some z t);
+        pub lookup_label : x.deeper ≡ None → f.depth ≤ n → LookupIs table host (Some (Some x))
+        lookup_label e d = looked_up {l = x} good_is (record {
+          label_is = label_is;
+          deeper_is = ap is_some e ∙ sym (le-ltb n f.depth d) ∙ past_is;
+          found = λ z t. absurd (none-some z (sym e ∙ t));
         })
+
+-- ---- what a lookup tells
+
+-- of a host that has a private label, where the table is good
+pub record Looked (table host : Bytes) (l : Lookup) : Type 0 where
+  pub good : is_none (read_table table) ≡ false
+  pub label : LabelFound table host l
+
+module _ {table host : Bytes} {q : Option (Option Lookup)} (Q : LookupIs table host q) where
+  pub looked_bad : q ≡ None → read_table table ≡ None
+  looked_bad e = go Q e
+    where
+      go : {q : Option (Option Lookup)} → LookupIs table host q → q ≡ None → read_table table ≡ None
+      go (unread t) e = t
+      go (unlabelled g p) e = let z : ◌≡◌ {A = ℕ} 0 1 = cc in absurd (omega arith)
+      go (looked_up g L) e = let z : ◌≡◌ {A = ℕ} 0 1 = cc in absurd (omega arith)
+
+  module _ {x : Option Lookup} (f : q ≡ Some x) where
+    pub looked_none : x ≡ None → (is_none (read_table table) ≡ false) × (private_label table host ≡ None)
+    looked_none e = go Q f e
+      where
+        go : {q : Option (Option Lookup)} {x : Option Lookup} → LookupIs table host q → q ≡ Some x → x ≡ None → (is_none (read_table table) ≡ false) × (private_label table host ≡ None)
+        go (unread t) f e = let z : ◌≡◌ {A = ℕ} 0 1 = cc in absurd (omega arith)
+        go (unlabelled g p) f e = (g, p)
+        go (looked_up g L) f e = let z : ◌≡◌ {A = ℕ} 0 1 = cc in absurd (omega arith)
+
+    pub looked : {l : Lookup} → x ≡ Some l → Looked table host l
+    looked {l} e = go Q f e
+      where
+        go : {q : Option (Option Lookup)} {x : Option Lookup} → LookupIs table host q → q ≡ Some x → x ≡ Some l → Looked table host l
+        go (unread t) f e = let z : ◌≡◌ {A = ℕ} 0 1 = cc in absurd (omega arith)
+        go (unlabelled g p) f e = let z : ◌≡◌ {A = ℕ} 0 1 = cc in absurd (omega arith)
+        go (looked_up {l = m} g L) f e = let z : m ≡ l = cc in record { good = g; label = rw z at L }
+
+  -- ---- the label alone
+
+  pub label_bad : q ≡ None → None ≡ private_label table host
+  label_bad e = sym (no_label table host (at_bad table host {q = best_of (labels host) (read_table table)} refl (rw (looked_bad e) none_best)))
+    where
+      none_best : best_of (labels host) None ≡ None
+      none_best = unfold best_of in refl
+
+  pub label_none : {x : Option Lookup} → q ≡ Some x → x ≡ None → None ≡ private_label table host
+  label_none f e = sym (looked_none f e).1
+
+  pub label_told : {x : Option Lookup} {l : Lookup} {w : Bytes} → q ≡ Some x → x ≡ Some l → w ≡ l.label.now → Some w ≡ private_label table host
+  label_told f e h = ap Some h ∙ sym (looked f e).label.label_is
+
+module _ (table host : Bytes) where
+  pub label_malformed : {a : Bool} → a ≡ is_host host → a ≡ false → None ≡ private_label table host
+  label_malformed h h' = sym (no_label table host (at_malformed table host h h'))
+
+  pub label_address : {b : Bool} → b ≡ is_address (labels host) → b ≡ true → None ≡ private_label table host
+  label_address i i' = sym (no_label table host (at_address table host i i'))
 
 -- its premises in an order in which each fixes the next one's unknowns
 pub ruleset lookup_laws = (lookup_bad, lookup_malformed, lookup_address, lookup_whole, is_told, found_told, name_told, fewer_told, lookup_deeper, lookup_label, rules)
 
--- of `label_start` and `private_label`
-pub ruleset start_laws = (at_malformed, at_address, start_bad, rules)
+-- of `find_label`
+pub ruleset label_laws = (label_malformed, label_address, label_bad, label_none, label_told, rules)

@@ -8,12 +8,12 @@ use native.Mathlib.Omega.{arith}
 use lib.ListN.{length, take, drop, drop_of_length-le}
 use borrow.Author.Tests.{lt-leb}
 use Rattle.ascii.specs.Ascii.{Bytes, filter_by, take_while, last_of, split_at}
-use Rattle.ascii.proofs.Scan.{scan_to, scan_part}
+use Rattle.ascii.proofs.Scan.{scan_to, scan_from, scan_part}
 use Rattle.hosts.specs.Host.{labels}
 use Rattle.hosts.specs.code.Place.{Stands}
 use Rattle.suffix.specs.Suffix.{Rule, read_lines, read_table, matches}
 use Rattle.suffix.specs.code.Depth.{line_depth, lines_depth, is_good}
-use Rattle.suffix.specs.code.Idle.{Passes, Shallow, ShallowBy}
+use Rattle.suffix.specs.code.Idle.{Passes, Shallow, Shallows}
 use Rattle.suffix.specs.code.Pass.{sizes_of, sized, sizes, best_of, joined, join_best, read_line, in_line, in_content}
 use Rattle.suffix.specs.declared.Sizes.{Sizes}
 use Rattle.suffix.proofs.Climbs.{lines_rules, lines_more, lines_done, table_read}
@@ -21,6 +21,8 @@ use Rattle.suffix.proofs.IdleLines.{shallow_depth}
 use Rattle.suffix.proofs.Passes.{join_join, pass_fits, lines_on, next_line, Pass, pass_starts, pass_ends, pass_bad, pass_more}
 use Rattle.label_lookup.specs.code.Answer.{depths, depths_of, deepened}
 use Rattle.label_lookup.specs.code.Finds.{FindsLine}
+use Rattle.label_lookup.specs.code.Search.{Behind, NextLine, no_line, one_line}
+use Rattle.label_lookup.specs.declared.Candidate.{Candidate}
 use Rattle.label_lookup.specs.declared.Depths.{Depths}
 use Rattle.label_lookup.proofs.FindLaws.{told_good, told_bad}
 use mir.Syntax.{w64}
@@ -103,12 +105,11 @@ shallow_deeps {host} {table} {s} {d} {at} {to} D I = record {
 }
 
 pub record Round (host table : Bytes) (s : Sizes) (d start at : ℕ) : Type 0 where
-  pub short : length table ≤ 1048576
-  pub stands : Stands (last_of (suc d) (labels host)) host start
+  pub lent : Passes host table d start at
   pub deeps : Deeps host table s d at
 
-pub round_starts : {host table : Bytes} {s : Sizes} {last at : ℕ} → ShallowBy host table 0 0 last 0 at → s ≡ sizes_of 0 0 → Passes host table 0 last 0 → Round host table s 0 last at
-round_starts {host = host} {table = table} I e P = rw e (record { short = P.short; stands = P.stands; deeps = shallow_deeps (deeps_starts host table P.short) (I.is P) })
+pub round_starts : {host table : Bytes} {s : Sizes} {last : ℕ} → s ≡ sizes_of 0 0 → Passes host table 0 last 0 → Round host table s 0 last 0
+round_starts {host} {table} e P = rw e (record { lent = P; deeps = deeps_starts host table P.short })
 
 -- one line
 pub line_wrong : (host w : Bytes) (c : ℕ) {b : Bool} → b ≡ is_good w → b ≡ false → None ≡ deepened c (depths_of (labels host) (read_line w))
@@ -149,32 +150,62 @@ wrong_best hl (Some rs) c f = let z : ◌≡◌ {A = ℕ} 0 1 = cc in absurd (om
 twice : (c d n : ℕ) {z : ℕ} → z ≡ max c d → d ≡ max c n → z ≡ max c n
 twice c d n w p = omega (arith, w, p)
 
-pub part_end : (table : Bytes) {at to : ℕ} → to ≡ at + length (take_while in_content (drop at table)) → at < length table → to ≤ length table
-part_end table {at} {to} g l = scan_to in_content table at to g (omega arith)
+-- ---- the next line
 
-module _ {host table : Bytes} {s : Sizes} {c start at : ℕ} (R : Round host table s c start at) where
-  pub round_ends : length table ≤ at → Some (depths s c) ≡ depths_of (labels host) (read_table table)
-  round_ends l = deeps_ends R.deeps R.short l
+module _ {host table : Bytes} {m d last at from : ℕ} (l : length table ≤ 1048576) (I : Shallows host table m d last at from) where
+  pub next_none : length table ≤ from → NextLine host table m d last at None
+  next_none h = no_line h I
 
-  module _ {to : ℕ} (g : to ≡ at + length (take_while in_content (drop at table))) where
-    module _ {k : ℕ} (i : k ≡ to + length (take_while in_line (drop to table))) (l : at < length table) where
-      pub round_fits : Fits w64 (k + 1)
-      round_fits = pass_fits table i g l R.short
+  module _ {to : ℕ} (h : from < length table) (g : to ≡ from + length (take_while in_content (drop from table))) {k : ℕ} (i : k ≡ to + length (take_while in_line (drop to table))) where
+    pub next_fits : Fits w64 (k + 1)
+    next_fits = pass_fits table i g h l
 
-      round_lends : (d : ℕ) {z r : ℕ} → z ≡ max c d → Stands (last_of (suc (max c d)) (labels host)) host r → Passes host table z r (k + 1)
-      round_lends d w S =
-          let a : to ≤ length table = scan_to in_content table at to g (omega arith) in
-          let b : k ≤ length table = scan_to in_line table to k i a in
-          record { stands = rw w S; inside = omega arith; short = R.short }
+    pub next_some : NextLine host table m d last at (Some (record { part = record { from = from; to = to }; next = k + 1 }))
+    next_some = one_line (record { passed = I; inside = h; part_is = g; ends = k; ends_is = i; next_is = refl })
 
-    module _ {q : Option Depths} (t : q ≡ deepened c (depths_of (labels host) (read_line (take (to - at) (drop at table))))) where
-      pub round_wrong : q ≡ None → None ≡ depths_of (labels host) (read_table table)
-      round_wrong e = deeps_bad R.deeps g {q = best_of (labels host) (read_line (take (to - at) (drop at table)))} refl (wrong_best (labels host) (read_line (take (to - at) (drop at table))) c (sym e ∙ t))
+pub its_line : {host table : Bytes} {m d last at : ℕ} {q : Option Candidate} {x : Candidate} → NextLine host table m d last at q → q ≡ Some x → Behind host table m d last at x
+its_line (no_line h I) e = let z : ◌≡◌ {A = ℕ} 0 1 = cc in absurd (omega arith)
+its_line {x} (one_line {c = y} B) e = let z : y ≡ x = cc in rw z at B
 
-      pub round_more : {f : Depths} {x : Sizes} {from k m z r : ℕ} → q ≡ Some f → ShallowBy host table m z r (k + 1) from → k ≡ to + length (take_while in_line (drop to table))
-          → at < length table → x ≡ joined s f.sizes → m ≡ x.most → z ≡ max c f.depth → Stands (last_of (suc (max c f.depth)) (labels host)) host r → Round host table x z r from
-      round_more {f} {x} {z = z} e I i l u n w S =
-          let o = read_line (take (to - at) (drop at table)) in
-          let p : f.depth ≡ max c (line_depth (labels host) o) = found_depth (labels host) o c f (sym e ∙ t) in
-          let D = deeps_more R.deeps g {q = best_of (labels host) o} refl (found_best (labels host) o c f (sym e ∙ t)) i u (twice c f.depth (line_depth (labels host) o) w p) refl in
-          record { short = R.short; stands = rw w S; deeps = shallow_deeps D (rw n at (I.is (round_lends i l f.depth w S))) }
+-- where the next line is looked for
+module _ {host table : Bytes} {m d last at : ℕ} {x : Candidate} (B : Behind host table m d last at x) where
+  part_end : x.part.to ≤ length table
+  part_end = scan_to in_content table x.part.from x.part.to B.part_is (omega (arith, B.inside))
+
+  pub next_inside : x.next ≤ length table + 1
+  next_inside = omega (arith, B.next_is, scan_to in_line table x.part.to B.ends B.ends_is part_end)
+
+  pub next_smaller : length table + 1 - x.next < length table + 1 - at
+  next_smaller = omega (arith, next_inside, B.next_is, B.passed.onward, scan_from in_content table x.part.from x.part.to B.part_is, scan_from in_line table x.part.to B.ends B.ends_is)
+
+module _ {host table : Bytes} {s : Sizes} {c start at : ℕ} (R : Round host table s c start at) {q : Option Candidate} (C : NextLine host table s.most c start at q) where
+  pub round_ends : q ≡ None → Some (depths s c) ≡ depths_of (labels host) (read_table table)
+  round_ends e = go C e
+    where
+      go : {q : Option Candidate} → NextLine host table s.most c start at q → q ≡ None → Some (depths s c) ≡ depths_of (labels host) (read_table table)
+      go (no_line h I) e = deeps_ends (shallow_deeps R.deeps (I.is R.lent)) R.lent.short h
+      go (one_line B) e = let z : ◌≡◌ {A = ℕ} 0 1 = cc in absurd (omega arith)
+
+  module _ {x : Candidate} (f : q ≡ Some x) where
+    B : Behind host table s.most c start at x
+    B = its_line C f
+
+    pub round_smaller : length table + 1 - x.next < length table + 1 - at
+    round_smaller = next_smaller B
+
+    there : Deeps host table s c x.part.from
+    there = shallow_deeps R.deeps (B.passed.is R.lent)
+
+    module _ {w : Bytes} (e : w ≡ take (x.part.to - x.part.from) (drop x.part.from table)) {o : Option Depths} (t : o ≡ deepened c (depths_of (labels host) (read_line w))) where
+      its : o ≡ deepened c (depths_of (labels host) (read_line (take (x.part.to - x.part.from) (drop x.part.from table))))
+      its = t ∙ ap (λ (v : Bytes). deepened c (depths_of (labels host) (read_line v))) e
+
+      pub round_wrong : o ≡ None → None ≡ depths_of (labels host) (read_table table)
+      round_wrong n = deeps_bad there B.part_is {q = best_of (labels host) (read_line (take (x.part.to - x.part.from) (drop x.part.from table)))} refl (wrong_best (labels host) (read_line (take (x.part.to - x.part.from) (drop x.part.from table))) c (sym n ∙ its))
+
+      pub round_more : {f : Depths} {y : Sizes} {z r : ℕ} → o ≡ Some f → y ≡ joined s f.sizes → z ≡ max c f.depth → Stands (last_of (suc (max c f.depth)) (labels host)) host r → Round host table y z r x.next
+      round_more {f} {y} {z} n u v S =
+          let p = read_line (take (x.part.to - x.part.from) (drop x.part.from table)) in
+          let d : f.depth ≡ max c (line_depth (labels host) p) = found_depth (labels host) p c f (sym n ∙ its) in
+          let D = deeps_more there B.part_is {q = best_of (labels host) p} refl (found_best (labels host) p c f (sym n ∙ its)) B.ends_is u (twice c f.depth (line_depth (labels host) p) v d) refl in
+          record { lent = record { stands = rw v S; inside = next_inside B; short = R.lent.short }; deeps = rw (sym B.next_is) at D }

@@ -19,17 +19,18 @@ use Rattle.suffix.specs.Suffix.{Rule, content, is_skipped, read_lines, read_tabl
 use Rattle.suffix.specs.code.Pass.{read_line, in_line, in_content}
 use Rattle.suffix.specs.code.Deeper.{goes_deeper, deeper_in}
 use Rattle.suffix.specs.code.Depth.{deepest, line_depth, Good}
-use Rattle.suffix.specs.code.Idle.{Passes, ShallowBy}
+use Rattle.suffix.specs.code.Idle.{Passes, Shallows}
 use Rattle.suffix.specs.code.Passed.{lines_from, Passed}
 use Rattle.hosts.proofs.Places.{rest_whole}
-use Rattle.suffix.proofs.Passes.{content_is, line_stops, lines_in, lines_out, lines_cut}
+use Rattle.suffix.proofs.Passes.{content_is, next_line, line_stops, lines_in, lines_out, lines_cut}
 use Rattle.suffix.proofs.Cuts.{split_both, read_both}
-use Rattle.suffix.proofs.PassedLines.{passed_on, passed_line, read_one}
+use Rattle.suffix.proofs.PassedLines.{passed_none, passed_more, passed_on, passed_line, read_one}
 use Rattle.suffix.proofs.Climbs.{table_short, table_read, last_whole, any_depth}
 use Rattle.suffix.proofs.IdleLines.{stands_whole}
 use Rattle.label_lookup.specs.code.Span.{Spans}
-use Rattle.label_lookup.specs.code.Search.{Seeks, Sought}
-use Rattle.label_lookup.proofs.RoundLaws.{part_end}
+use Rattle.label_lookup.specs.code.Search.{Seeks, Sought, Found, all_passed, stops_at, Behind, NextLine, no_line, one_line}
+use Rattle.label_lookup.specs.declared.Candidate.{Candidate}
+use Rattle.label_lookup.proofs.RoundLaws.{its_line, next_inside, next_smaller}
 use mir.Val.{Fits}
 use mir.Syntax.{w64}
 
@@ -60,22 +61,27 @@ good_both ks ls g = go (read_lines ks) (read_lines ls) (ap is_none (sym (read_bo
 
 -- ---- one line after another
 
-pub seeks_lends : {label table : Bytes} {n from : ℕ} → Seeks label table n from → Passes label table (n - 1) 0 from
-seeks_lends {label} {n = n} S = record {
-  stands = stands_whole label (suc (n - 1)) (omega (arith, S.labels_are));
-  inside = S.inside;
-  short = S.short;
-}
-
 -- the search stands at a place
 pub record Seeking (label table : Bytes) (n from at : ℕ) : Type 0 where
   pub lent : Seeks label table n from
   pub sought : Sought label table (n - 1) from at
 
-pub seeking_starts : {label table : Bytes} {m n from at : ℕ} → Seeks label table n from → ShallowBy label table m (n - 1) 0 from at → Seeking label table n from at
-seeking_starts S I = let J = I.is (seeks_lends S) in record { lent = S; sought = record { onward = J.onward; inside = J.inside; passed = J.passed } }
+pub seeking_starts : {label table : Bytes} {n from : ℕ} → Seeks label table n from → Seeking label table n from from
+seeking_starts {label} {table} {n} {from} S = record { lent = S; sought = record { onward = omega arith; inside = S.inside; passed = passed_more (omega arith) (passed_none label table from) } }
 
 module _ {label table : Bytes} {n from at : ℕ} (R : Seeking label table n from at) where
+  pub seeking_short : length table ≤ 1048576
+  seeking_short = R.lent.short
+
+  seeking_lends : Passes label table (n - 1) 0 at
+  seeking_lends = record { stands = stands_whole label (suc (n - 1)) (omega (arith, R.lent.labels_are)); inside = R.sought.inside; short = R.lent.short }
+
+  -- the lines up to the one that may find something
+  passed_to : {m to : ℕ} → Shallows label table m (n - 1) 0 at to → Sought label table (n - 1) from to
+  passed_to I =
+      let J = I.is seeking_lends in
+      record { onward = omega (arith, R.sought.onward, J.onward); inside = J.inside; passed = passed_on R.sought.passed J.passed }
+
   -- a line without a deeper rule goes deeper than fewer labels
   shallow_line : (o : Option (List Rule)) → deeper_in (labels label) o ≡ false → line_depth (labels label) o ≤ n - 1
   unfolding deeper_in line_depth
@@ -85,45 +91,57 @@ module _ {label table : Bytes} {n from at : ℕ} (R : Seeking label table n from
       let a = any_depth n (labels label) rules R.lent.some (omega (arith, R.lent.labels_are)) in
       omega (arith, leb-false n (deepest (labels label) rules) (sym a ∙ ap (λ (ls : List Bytes). any (goes_deeper ls) rules) z ∙ e))
 
-  line_good : at < length table → Good (take_while in_content (drop at table))
-  line_good l =
-      let P = R.sought.passed in
-      let k = at + length (take_while in_line (drop at table)) in
-      let a = (good_both P.lines (lines_from table at) (ap (λ (ls : List Bytes). is_none (read_lines ls)) (sym P.are) ∙ R.lent.good)).1 in
-      let c : lines_from table at ≡ (take_while in_line (drop at table) ∷ []) ++ lines_from table (k + 1) = lines_in table at (omega arith) ∙ lines_cut table at k refl in
-      let b = (good_both (take_while in_line (drop at table) ∷ []) (lines_from table (k + 1)) (ap (λ (ls : List Bytes). is_none (read_lines ls)) (sym c) ∙ a)).0 in
-      record { is = ap is_none (sym (read_one (take_while in_line (drop at table)) ∙ ap read_line (content_is (drop at table)))) ∙ b }
+  module _ {m : ℕ} {q : Option Candidate} (C : NextLine label table m (n - 1) 0 at q) where
+    pub seeking_ends : q ≡ None → Found label table (n - 1) from None
+    seeking_ends e = go C e
+      where
+        go : {q : Option Candidate} → NextLine label table m (n - 1) 0 at q → q ≡ None → Found label table (n - 1) from None
+        go (no_line h I) e = all_passed h (passed_to I)
+        go (one_line B) e = let z : ◌≡◌ {A = ℕ} 0 1 = cc in absurd (omega arith)
 
-  -- what is read of the line at the place
-  pub seeking_good : {to : ℕ} → to ≡ at + length (take_while in_content (drop at table)) → at < length table → Good (take (to - at) (drop at table))
-  seeking_good {to} g l = rw (scan_part in_content table at to g) (line_good l)
+    module _ {x : Candidate} (f : q ≡ Some x) where
+      B : Behind label table m (n - 1) 0 at x
+      B = its_line C f
 
-  module _ {k : ℕ} (i : k ≡ at + length (take_while in_line (drop at table))) (l : at < length table) where
-    pub seeking_fits : Fits w64 (k + 1)
-    seeking_fits = record { fits = omega (arith, scan_to in_line table at k i (omega arith), R.lent.short) }
+      pub seeking_smaller : length table + 1 - x.next < length table + 1 - at
+      seeking_smaller = next_smaller B
 
-    pub seeking_lends : Passes label table (n - 1) 0 (k + 1)
-    seeking_lends =
-        let P = seeks_lends R.lent in
-        let a = scan_to in_line table at k i (omega arith) in
-        record { stands = P.stands; inside = omega (arith, a); short = P.short }
+      there : Sought label table (n - 1) from x.part.from
+      there = passed_to B.passed
 
-    module _ {m next : ℕ} (I : ShallowBy label table m (n - 1) 0 (k + 1) next) where
-      pub seeking_more : {b : Bool} {to : ℕ} → to ≡ at + length (take_while in_content (drop at table)) → b ≡ deeper_in (labels label) (read_line (take (to - at) (drop at table))) → b ≡ false
-          → Seeking label table n from next
-      seeking_more {to = to} g e f =
-          let d = shallow_line (read_line (take_while in_content (drop at table))) (rw (← scan_part in_content table at to g) (sym e ∙ f)) in
-          let J = I.is seeking_lends in
-          record {
-            lent = R.lent;
-            sought = record {
-              onward = omega (arith, R.sought.onward, i, I.onward);
-              inside = J.inside;
-              passed = passed_on R.sought.passed (passed_on (passed_line label table (n - 1) at k (omega arith) i (line_good l) d) J.passed);
-            };
-          }
+      pub seeking_found : {k : ℕ} → k ≡ x.part.from → Found label table (n - 1) from (Some k)
+      seeking_found e = rw e (stops_at B.inside there)
 
-pub ruleset seek_laws = (part_end, seeks_lends, seeking_starts, seeking_good, seeking_fits, seeking_lends, seeking_more, rules)
+      line_good : Good (take_while in_content (drop x.part.from table))
+      line_good =
+          let P = there.passed in
+          let k = x.part.from + length (take_while in_line (drop x.part.from table)) in
+          let a = (good_both P.lines (lines_from table x.part.from) (ap (λ (ls : List Bytes). is_none (read_lines ls)) (sym P.are) ∙ R.lent.good)).1 in
+          let c : lines_from table x.part.from ≡ (take_while in_line (drop x.part.from table) ∷ []) ++ lines_from table (k + 1) = lines_in table x.part.from (omega (arith, B.inside)) ∙ lines_cut table x.part.from k refl in
+          let b = (good_both (take_while in_line (drop x.part.from table) ∷ []) (lines_from table (k + 1)) (ap (λ (ls : List Bytes). is_none (read_lines ls)) (sym c) ∙ a)).0 in
+          record { is = ap is_none (sym (read_one (take_while in_line (drop x.part.from table)) ∙ ap read_line (content_is (drop x.part.from table)))) ∙ b }
+
+      module _ {w : Bytes} (e : w ≡ take (x.part.to - x.part.from) (drop x.part.from table)) where
+        its_part : w ≡ take_while in_content (drop x.part.from table)
+        its_part = e ∙ scan_part in_content table x.part.from x.part.to B.part_is
+
+        -- what is read of the line
+        pub seeking_good : Good w
+        seeking_good = rw its_part line_good
+
+        pub seeking_more : {b : Bool} {k : ℕ} → b ≡ deeper_in (labels label) (read_line w) → b ≡ false → k ≡ x.next → Seeking label table n from k
+        seeking_more g h i =
+            let d = shallow_line (read_line (take_while in_content (drop x.part.from table))) (rw (← its_part) (sym g ∙ h)) in
+            let P = passed_line label table (n - 1) x.part.from B.ends (omega (arith, B.inside)) (next_line table x.part.from x.part.to B.ends B.part_is B.ends_is) line_good d in
+            rw i (record {
+              lent = R.lent;
+              sought = record { onward = omega (arith, R.sought.onward, next_smaller B); inside = next_inside B; passed = rw (sym B.next_is) at (passed_on there.passed P) };
+            })
+
+pub ruleset seek_laws = (seeking_starts, seeking_short, seeking_smaller, seeking_good, rules)
+
+-- of the turns and the answers of `next_deeper` alone, so that a search that fails tries every way
+pub ruleset seek_turns = (seeking_found, seeking_more, seeking_ends)
 
 -- ---- the span
 
@@ -140,46 +158,58 @@ seeks_first {label} {table} c g =
     let W = whole table g in
     record { some = omega (arith, c, labels_some label); inside = omega arith; short = W.short; labels_are = c; good = W.good }
 
-module _ (table : Bytes) {at to : ℕ} (e : to ≡ at + length (take_while in_line (drop at table))) (l : at < length table) (g : is_none (read_table table) ≡ false) where
-  pub behind_fits : Fits w64 (to + 1)
-  behind_fits = record { fits = omega (arith, scan_to in_line table at to e (omega arith), (whole table g).short) }
-
-  -- the lines behind the one at a place
-  pub seeks_behind : {label : Bytes} {n : ℕ} → n ≡ length (labels label) → Seeks label table n (to + 1)
-  seeks_behind c =
-      let S = seeks_first {table = table} c g in
-      let t : to ≤ length table = scan_to in_line table at to e (omega arith) in
-      let c = lines_both table 0 to (omega arith) t (line_stops table at to e) in
-      let b = good_both (split_at 10 (take (to - 0) table)) (lines_from table (to + 1)) (ap (λ (ls : List Bytes). is_none (read_lines ls)) (sym c) ∙ S.good) in
-      record { some = S.some; inside = omega (arith, t); short = S.short; labels_are = S.labels_are; good = b.1 }
-
--- from the first such line to the end of the last one so far, and the search behind it
-pub record Spanning (label table : Bytes) (d from to at : ℕ) : Type 0 where
+-- from the first such line to the end of the last one so far
+pub record Spanning (label table : Bytes) (d from to : ℕ) : Type 0 where
   pub onward : from ≤ to
   pub inside : to ≤ length table
   pub stops : to < length table → get_or table to 0 ≡ 10
   pub before : Sought label table d 0 from
-  pub behind : Sought label table d (to + 1) at
 
-pub spanning_starts : {label table : Bytes} {d from to at : ℕ} → to ≡ from + length (take_while in_line (drop from table)) → from < length table → Sought label table d 0 from → Sought label table d (to + 1) at
-    → Spanning label table d from to at
-spanning_starts {table} {from} {to} e l P Q = record {
-  onward = scan_from in_line table from to e;
-  inside = scan_to in_line table from to e (omega arith);
-  stops = line_stops table from to e;
-  before = P;
-  behind = Q;
-}
+-- where a line was found
+record Stops (label table : Bytes) (d from at : ℕ) : Type 0 where
+  pub there : at < length table
+  pub sought : Sought label table d from at
 
-module _ {label table : Bytes} {d at end next : ℕ} (e : end ≡ at + length (take_while in_line (drop at table))) (l : at < length table) (Q : Sought label table d (end + 1) next) where
-  pub spanning_more : {from to : ℕ} → Spanning label table d from to at → Spanning label table d from end next
-  spanning_more R = record {
-    onward = omega (arith, R.onward, R.behind.onward, scan_from in_line table at end e);
-    inside = scan_to in_line table at end e (omega arith);
-    stops = line_stops table at end e;
-    before = R.before;
-    behind = Q;
-  }
+stops : {label table : Bytes} {d from at : ℕ} {q : Option ℕ} → Found label table d from q → q ≡ Some at → Stops label table d from at
+stops (all_passed h S) e = let z : ◌≡◌ {A = ℕ} 0 1 = cc in absurd (omega arith)
+stops {at} (stops_at {to} h S) e = let z : to ≡ at = cc in record { there = rw z at h; sought = rw z at S }
+
+pub spanning_starts : {label table : Bytes} {d from to : ℕ} {q : Option ℕ} → to ≡ from + length (take_while in_line (drop from table)) → Found label table d 0 q → q ≡ Some from → Spanning label table d from to
+spanning_starts {table = table} {from = from} {to = to} e F f =
+    let S = stops F f in
+    record {
+      onward = scan_from in_line table from to e;
+      inside = scan_to in_line table from to e (omega (arith, S.there));
+      stops = line_stops table from to e;
+      before = S.sought;
+    }
+
+module _ {label table : Bytes} {d from to : ℕ} (R : Spanning label table d from to) where
+  pub behind_fits : is_none (read_table table) ≡ false → Fits w64 (to + 1)
+  behind_fits g = record { fits = omega (arith, R.inside, (whole table g).short) }
+
+  -- the lines behind the last one so far
+  pub seeks_behind : {n : ℕ} → n ≡ length (labels label) → is_none (read_table table) ≡ false → Seeks label table n (to + 1)
+  seeks_behind c g =
+      let S = seeks_first {table = table} c g in
+      let c = lines_both table 0 to (omega arith) R.inside R.stops in
+      let b = good_both (split_at 10 (take (to - 0) table)) (lines_from table (to + 1)) (ap (λ (ls : List Bytes). is_none (read_lines ls)) (sym c) ∙ S.good) in
+      record { some = S.some; inside = omega (arith, R.inside); short = S.short; labels_are = S.labels_are; good = b.1 }
+
+  module _ {q : Option ℕ} (F : Found label table d (to + 1) q) {at end : ℕ} (f : q ≡ Some at) (e : end ≡ at + length (take_while in_line (drop at table))) where
+    S : Stops label table d (to + 1) at
+    S = stops F f
+
+    pub spanning_smaller : length table - end < length table - to
+    spanning_smaller = omega (arith, S.there, S.sought.onward, scan_from in_line table at end e)
+
+    pub spanning_more : Spanning label table d from end
+    spanning_more = record {
+      onward = omega (arith, R.onward, S.sought.onward, scan_from in_line table at end e);
+      inside = scan_to in_line table at end e (omega (arith, S.there));
+      stops = line_stops table at end e;
+      before = R.before;
+    }
 
 -- no line passed goes deeper than the whole label
 passed_not : {label table : Bytes} {n from to : ℕ} → n ≡ length (labels label) → (P : Passed label table (n - 1) from to) → any (goes_deeper (labels label)) P.rules ≡ false
@@ -222,10 +252,10 @@ span_whole table label = record {
   behind_not = deeper_none (labels label);
 }
 
-spans_of : {label table : Bytes} {n from to at : ℕ} → Spanning label table (n - 1) from to at → length table ≤ at → n ≡ length (labels label) → Spans table label from to
-spans_of {label} {table} {n} {from} {to} {at} R h c =
+spans_of : {label table : Bytes} {n from to at : ℕ} → Spanning label table (n - 1) from to → Sought label table (n - 1) (to + 1) at → length table ≤ at → n ≡ length (labels label) → Spans table label from to
+spans_of {label} {table} {n} {from} {to} {at} R S h c =
     let P = R.before.passed in
-    let Q = R.behind.passed in
+    let Q = S.passed in
     record {
       before = P.lines;
       behind = lines_from table (to + 1);
@@ -236,13 +266,17 @@ spans_of {label} {table} {n} {from} {to} {at} R h c =
       behind_not = rw (behind_read, append-nil) (deeper_some (labels label) Q.rules ∙ passed_not c Q);
     }
   where
-    behind_read : read_lines (lines_from table (to + 1)) ≡ Some (R.behind.passed.rules ++ [])
-    behind_read = ap read_lines R.behind.passed.are ∙ read_both R.behind.passed.lines (lines_from table at) ∙ rw (R.behind.passed.read, last_lines table at h)
+    behind_read : read_lines (lines_from table (to + 1)) ≡ Some (S.passed.rules ++ [])
+    behind_read = ap read_lines S.passed.are ∙ read_both S.passed.lines (lines_from table at) ∙ rw (S.passed.read, last_lines table at h)
 
-pub spanning_ends : {host label table : Bytes} {n from to at : ℕ} → Spanning host table (n - 1) from to at → host ≡ label → length table ≤ at → n ≡ length (labels host) → Spans table label from to
-spanning_ends R e h c = rw (← e) (spans_of R h c)
+pub spanning_ends : {host label table : Bytes} {n from to : ℕ} {q : Option ℕ} → Spanning host table (n - 1) from to → Found host table (n - 1) (to + 1) q → q ≡ None → host ≡ label → n ≡ length (labels host) → Spans table label from to
+spanning_ends {host} {label} {table} {n} {from} {to} R F f e c = rw (← e) (go F f)
+  where
+    go : {q : Option ℕ} → Found host table (n - 1) (to + 1) q → q ≡ None → Spans table host from to
+    go (all_passed h S) f = spans_of R S h c
+    go (stops_at h S) f = let z : ◌≡◌ {A = ℕ} 0 1 = cc in absurd (omega arith)
 
-pub ruleset span_laws = (seeks_first, behind_fits, seeks_behind, spanning_starts, span_whole, rules)
+pub ruleset span_laws = (seeks_first, behind_fits, spanning_starts, span_whole, spanning_smaller, rules)
 
 -- of the turns and the last return of `find_span` alone, so that a search that fails tries every way
-pub ruleset turn_laws = (spanning_more, spanning_ends)
+pub ruleset turn_laws = (seeks_behind, spanning_more, spanning_ends)

@@ -3,17 +3,18 @@
 
 mod spans;
 
-ghost use Rattle.std.specs.Prelude.{◌≡◌, true, ◌&&◌, ◌++◌, suc, max, length, leb};
+ghost use Rattle.std.specs.Prelude.{◌≡◌, true, ◌&&◌, ◌++◌, ◌≤◌, suc, max, length, leb, option_map};
 ghost use Rattle.ascii.specs.Ascii.{last_of, text};
 ghost use Rattle.hosts.specs.Host.{labels, is_host};
 ghost use Rattle.hosts.specs.code.Place.{Stands};
 ghost use Rattle.suffix.specs.Suffix.{normal, read_table, private_label, or_empty};
-ghost use Rattle.suffix.specs.code.Pass.{read_line, LabelAt};
+ghost use Rattle.suffix.specs.code.Pass.{read_line};
 ghost use Rattle.suffix.specs.code.Deeper.{goes_deeper, deeper_in};
 ghost use Rattle.suffix.specs.code.Depth.{line_depth, Good, is_good, Past};
 ghost use Rattle.suffix.specs.code.Idle.{Passes};
 ghost use Rattle.label_lookup.specs.code.Answer.{depths_of, deepened, LookupIs};
 ghost use Rattle.label_lookup.specs.code.Finds.{FindsHost, FindsRule, FindsLine};
+ghost use Rattle.label_lookup.specs.code.Search.{NextLine};
 ghost use Rattle.label_lookup.specs.code.Span.{OwnerIs};
 
 use ascii::Span;
@@ -28,12 +29,11 @@ pub struct Depths {
     pub depth: usize,
 }
 
-// What one pass tells of a host: where its private label begins, its end where there is none, and what the table finds for the host,
-// where a rule goes deeper than that label. The start is no Option, here and below: the label is the host from there on, and an
-// empty one is what the interface of C answers for none.
+// What one pass tells of a host that has a private label: the label, letters as given, and what the table finds for the host, where a
+// rule goes deeper than the label.
 #[derive(Clone, Copy)]
-pub struct Lookup {
-    pub start: usize,
+pub struct Lookup<'a> {
+    pub label: &'a [u8],
     pub deeper: Option<Sizes>,
 }
 
@@ -45,10 +45,10 @@ pub struct Deeper {
     pub span: Span,
 }
 
-// Where the private label of a host begins, its end where there is none, and what is held of the rules that go deeper, where some do.
+// The private label of a host, letters as given, and what is held of the rules that go deeper, where some do.
 #[derive(Clone, Copy)]
-pub struct Owner {
-    pub start: usize,
+pub struct Owner<'a> {
+    pub label: &'a [u8],
     pub deeper: Option<Deeper>,
 }
 
@@ -66,14 +66,14 @@ fn is_wild(classes: &Classes, v: &[u8]) -> bool
     if 251 < v.len() {
         return false;
     }
-    hosts::is_host_by(classes, v)
+    hosts::is_host_by(classes.table(), v)
 }
 
 // `!` and v is a rule: v is a host of two labels or more.
 fn is_exception(classes: &Classes, v: &[u8]) -> bool
     ensures { result ≡ (is_host v.now && leb 2 (length (labels v.now))) }
 {
-    if hosts::is_host_by(classes, v) {
+    if hosts::is_host_by(classes.table(), v) {
         return 2 <= hosts::label_count(v);
     }
     false
@@ -88,7 +88,7 @@ fn is_good(classes: &Classes, w: &[u8]) -> bool
         Form::Star => true,
         Form::Wild => is_wild(classes, &w[2..]),
         Form::Exception => is_exception(classes, &w[1..]),
-        Form::Name => hosts::is_host_by(classes, w),
+        Form::Name => hosts::is_host_by(classes.table(), w),
     }
 }
 
@@ -114,7 +114,8 @@ fn wild_sizes(host: &[u8], v: &[u8]) -> Sizes
     Sizes::new(0, 0)
 }
 
-// The exception `!` and v.
+// The exception `!` and v. Not one function with `name_sizes`: an exception counts in both numbers and a name in one, and their
+// contracts are of different forms, `FindsRule` and `FindsHost`.
 fn exception_sizes(host: &[u8], v: &[u8]) -> Sizes
     ensures { FindsRule host.now (text "!" ++ v.now) result }
 {
@@ -189,6 +190,8 @@ fn form_depth(host: &[u8], tail: &[u8], depth: usize, line: &Line) -> usize
 }
 
 // What any line finds, with the depth before it, whose labels and one more begin at start; none for one that makes the table bad.
+// Depth and start stand together here, in `deeper_tail` and in `next_candidate`: a struct of the two with the fact as its ghost field
+// would hold the host as well, which the fact names, and be made anew at each line that goes deeper.
 fn line_finds(
     classes: &Classes,
     host: &[u8],
@@ -229,9 +232,38 @@ fn deeper_tail(host: &[u8], depth: usize, start: usize, d: usize) -> usize
     start
 }
 
-// The lines of the table, but for those that find nothing; the host's last label begins at last. A loop, since each turn begins where
-// the pass over such lines stopped. The depth, the place where its labels begin and the sizes change together in this loop alone, each by
-// a function of its own, so that a struct of them would be no plainer.
+// A line that may find something: what is read of it, and where the next line begins.
+#[derive(Clone, Copy)]
+struct Candidate {
+    part: Span,
+    next: usize,
+}
+
+// The first such line from a place on, none where there is none: the pass over the others, by what is found so far.
+fn next_candidate(
+    kinds: &Kinds,
+    most: usize,
+    depth: usize,
+    last: usize,
+    table: &[u8],
+    at: usize,
+) -> Option<Candidate>
+    requires { length table.now ≤ 1048576 }
+    ensures { NextLine kinds.now.host.now table.now most depth last at result }
+{
+    let from = kinds.idle_lines(most, depth, last, table, at);
+    if table.len() <= from {
+        return None;
+    }
+    let to = suffix::short_content_end(table, from);
+    let next = suffix::skips::short_end(table, to) + 1;
+    let part = Span { from, to };
+    Some(Candidate { part, next })
+}
+
+// The lines of the table, but for those that find nothing; the host's last label begins at last. A loop, since what is found so far
+// says which line is next. The depth, the place where its labels begin and the sizes change together in this loop alone, each by a
+// function of its own, so that a struct of them would be no plainer.
 fn deep_lines(classes: &Classes, kinds: &Kinds, last: usize, table: &[u8]) -> Option<Depths>
     requires { Passes kinds.now.host.now table.now 0 last 0 }
     ensures { result ≡ depths_of (labels kinds.now.host.now) (read_table table.now) }
@@ -240,15 +272,13 @@ fn deep_lines(classes: &Classes, kinds: &Kinds, last: usize, table: &[u8]) -> Op
     let mut sizes = Sizes::new(0, 0);
     let mut depth = 0;
     let mut start = last;
-    let mut at = suffix::skips::idle_lines(kinds, 0, 0, last, table, 0);
-    while at < table.len() {
-        let to = suffix::short_content_end(table, at);
-        let line = line_finds(classes, host, depth, start, &table[at..to])?;
+    let mut at = 0;
+    while let Some(found) = next_candidate(kinds, sizes.most, depth, start, table, at) {
+        let line = line_finds(classes, host, depth, start, found.part.of(table))?;
         sizes = sizes.join(line.sizes);
         start = deeper_tail(host, depth, start, line.depth);
         depth = depth.max(line.depth);
-        let next = suffix::skips::short_end(table, to) + 1;
-        at = suffix::skips::idle_lines(kinds, sizes.most, depth, start, table, next);
+        at = found.next;
     }
     Some(Depths { sizes, depth })
 }
@@ -267,75 +297,73 @@ pub fn deep_rules(host: &[u8], table: &[u8]) -> Option<Depths>
     deep_lines(&classes, &kinds, last, table)
 }
 
-// The private label, and what the table finds where rules go deeper, in one pass; none for a bad table.
-fn look_up(host: &[u8], table: &[u8]) -> Option<Lookup>
+// The private label, and what the table finds where rules go deeper, in one pass: none for a bad table; and none within, where the
+// host has no private label.
+fn look_up<'a>(host: &'a [u8], table: &[u8]) -> Option<Option<Lookup<'a>>>
     ensures { LookupIs table.now host.now result }
 {
     let found = deep_rules(host, table)?;
-    let without = Lookup {
-        start: host.len(),
-        deeper: None,
-    };
     if !hosts::is_host(host) {
-        return Some(without);
+        return Some(None);
     }
     if hosts::is_address(host) {
-        return Some(without);
+        return Some(None);
     }
     let n = found.sizes.suffix_size();
     if n < hosts::label_count(host) {
         let start = hosts::last_labels(host, n + 1);
+        let label = &host[start..];
         let deeper = if n < found.depth {
             Some(found.sizes)
         } else {
             None
         };
-        return Some(Lookup { start, deeper });
+        return Some(Some(Lookup { label, deeper }));
     }
-    Some(without)
+    Some(None)
 }
 
 // The private label, and what is held of the rules that go deeper: a second pass only where there are some. Where there is none, a
-// host has the label exactly where it ends in it (`one_label` of suffix/proofs/Speed.antt). None for a bad table.
-pub fn find_owner(host: &[u8], table: &[u8]) -> Option<Owner>
+// host has the label exactly where it ends in it (`one_label` of suffix/proofs/Speed.antt). None for a bad table; and none within, where
+// the host has no private label.
+pub fn find_owner<'a>(host: &'a [u8], table: &[u8]) -> Option<Option<Owner<'a>>>
     ensures { OwnerIs table.now host.now result }
 {
-    let found = look_up(host, table)?;
-    let start = found.start;
+    let Some(found) = look_up(host, table)? else {
+        return Some(None);
+    };
+    let label = found.label;
     if let Some(sizes) = found.deeper {
-        let span = spans::find_span(&host[start..], table);
+        let span = spans::find_span(label, table);
         let deeper = Deeper { sizes, span };
-        return Some(Owner {
-            start,
+        return Some(Some(Owner {
+            label,
             deeper: Some(deeper),
-        });
+        }));
     }
-    Some(Owner {
-        start,
+    Some(Some(Owner {
+        label,
         deeper: None,
-    })
+    }))
 }
 
-// Where the private label of the host begins; its end where there is none.
-fn label_start(host: &[u8], table: &[u8]) -> usize
-    ensures { LabelAt table.now host.now result }
+// The private label of the host, letters as given. What is no host, or an address, has none whatever the table says.
+fn find_label<'a>(host: &'a [u8], table: &[u8]) -> Option<&'a [u8]>
+    ensures { option_map (λ l. l.now) result ≡ private_label table.now host.now }
 {
     if !hosts::is_host(host) {
-        return host.len();
+        return None;
     }
     if hosts::is_address(host) {
-        return host.len();
+        return None;
     }
-    match look_up(host, table) {
-        Some(found) => found.start,
-        None => host.len(),
-    }
+    let found = look_up(host, table)??;
+    Some(found.label)
 }
 
-// The part of the host that is its private label, letters as given; empty where there is none.
+// The same; empty where there is none, as the interface of C answers it.
 pub fn private_label<'a>(host: &'a [u8], table: &[u8]) -> &'a [u8]
     ensures { result.now ≡ or_empty (private_label table.now host.now) }
 {
-    let at = label_start(host, table);
-    &host[at..]
+    find_label(host, table).unwrap_or(b"")
 }

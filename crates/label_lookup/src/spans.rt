@@ -3,35 +3,32 @@ ghost use Rattle.std.specs.Prelude.{◌≡◌, false, ◌-◌};
 ghost use Rattle.ascii.specs.Ascii.{is_none};
 ghost use Rattle.suffix.specs.Suffix.{read_table};
 ghost use Rattle.label_lookup.specs.code.Span.{Spans};
-ghost use Rattle.label_lookup.specs.code.Search.{Seeks, Sought};
+ghost use Rattle.label_lookup.specs.code.Search.{Seeks, Found};
 
-use crate::{Line, form_deeper};
+use crate::{Line, form_deeper, next_candidate};
 use ascii::Span;
 use ascii::classes::Classes;
 use suffix::skips;
 use suffix::skips::Kinds;
 
-// The first line from a place on that has a rule deeper than the label, whose labels are `count`; the table's end or behind it where
-// there is none. No rule that matches the label has more labels than these, so none stops the pass over other lines. A loop, since
-// each turn begins where that pass stopped.
-fn next_deeper(kinds: &Kinds, count: usize, table: &[u8], from: usize) -> usize
+// The first line from a place on that has a rule deeper than the label, whose labels are `count`; none where there is none. No rule
+// that matches the label has more labels than these, so none stops the pass over other lines. A loop, since each turn begins behind
+// the line that the one before read.
+fn next_deeper(kinds: &Kinds, count: usize, table: &[u8], from: usize) -> Option<usize>
     requires { Seeks kinds.now.host.now table.now count from }
-    ensures { Sought kinds.now.host.now table.now (count - 1) from result }
+    ensures { Found kinds.now.host.now table.now (count - 1) from result }
 {
-    let depth = count - 1;
-    let mut at = skips::idle_lines(kinds, count, depth, 0, table, from);
-    while at < table.len() {
-        let to = suffix::short_content_end(table, at);
+    let mut at = from;
+    while let Some(found) = next_candidate(kinds, count, count - 1, 0, table, at) {
         let line = Line {
-            bytes: &table[at..to],
+            bytes: found.part.of(table),
         };
         if form_deeper(kinds.host, &line) {
-            return at;
+            return Some(found.part.from);
         }
-        let next = skips::short_end(table, at) + 1;
-        at = skips::idle_lines(kinds, count, depth, 0, table, next);
+        at = found.next;
     }
-    at
+    None
 }
 
 // The span from the first line with a rule deeper than the label to the last one. A table without such a line, which no caller has,
@@ -42,19 +39,15 @@ pub(crate) fn find_span(label: &[u8], table: &[u8]) -> Span
 {
     let kinds = Kinds::new(&Classes::new(), label);
     let count = hosts::label_count(kinds.host);
-    let from = next_deeper(&kinds, count, table, 0);
-    if table.len() <= from {
+    let Some(from) = next_deeper(&kinds, count, table, 0) else {
         return Span {
             from: 0,
             to: table.len(),
         };
-    }
+    };
     let mut to = skips::line_end(table, from);
-    let mut at = next_deeper(&kinds, count, table, to + 1);
-    while at < table.len() {
-        let end = skips::line_end(table, at);
-        at = next_deeper(&kinds, count, table, end + 1);
-        to = end;
+    while let Some(at) = next_deeper(&kinds, count, table, to + 1) {
+        to = skips::line_end(table, at);
     }
     Span { from, to }
 }

@@ -2,13 +2,14 @@
 #![tactic(auto)]
 
 mod web;
+mod writer;
 
 ghost use Rattle.std.specs.Prelude.{◌≡◌, ◌+◌, length, leb};
-ghost use Rattle.ascii.specs.Ascii.{lower};
 ghost use Rattle.origin.specs.Origin.{normal_form};
 ghost use Rattle.normal_forms.specs.code.Writing.{Wrote};
 
 use web::Web;
+pub use writer::Writer;
 
 // ---- bytes
 
@@ -22,9 +23,8 @@ fn fits(room: usize, at: usize, n: usize) -> bool
     at <= room - n
 }
 
-// The bytes x written into out at a place, where there is room for them all. Output and place are two arguments, here and in cleaning: a
-// struct of both would hold what is lent, and every caller would have to take it apart again to say what stands in it.
-// Returns the place behind them, or the same place where there is no room.
+// The bytes x written into out at a place, where there is room for them all.
+// Returns the place behind them, or the same place where there is no room: how far is written in either case, so no Option.
 pub fn write_bytes(x: &[u8], out: &mut [u8], at: usize) -> usize
     ensures { Wrote x.now at out.old out.new result }
 {
@@ -36,17 +36,6 @@ pub fn write_bytes(x: &[u8], out: &mut [u8], at: usize) -> usize
     end
 }
 
-// The bytes x in lower case, likewise.
-pub fn write_lower(x: &[u8], out: &mut [u8], at: usize) -> usize
-    ensures { Wrote (lower x.now) at out.old out.new result }
-{
-    let end = write_bytes(x, out, at);
-    if at < end {
-        out[at..end].make_ascii_lowercase();
-    }
-    end
-}
-
 // ---- normal forms
 
 pub fn normal_length(s: &[u8]) -> usize
@@ -55,15 +44,5 @@ pub fn normal_length(s: &[u8]) -> usize
     match Web::read(s) {
         Some(w) => w.length(),
         None => s.len(),
-    }
-}
-
-// The normal form of s, written as by write_bytes.
-pub fn write_normal(s: &[u8], out: &mut [u8], at: usize) -> usize
-    ensures { Wrote (normal_form s.now) at out.old out.new result }
-{
-    match Web::read(s) {
-        Some(w) => w.write(out, at),
-        None => write_bytes(s, out, at),
     }
 }

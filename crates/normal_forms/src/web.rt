@@ -4,17 +4,16 @@ ghost use Rattle.normal_forms.specs.code.Places.{Placed};
 // A web origin: its host ends at one place, its colon and port, or nothing, at the other.
 #[derive(Clone, Copy)]
 pub(crate) struct Web<'a> {
-    s: &'a [u8],
-    end: usize,
-    tail: usize,
+    pub(crate) s: &'a [u8],
+    pub(crate) end: usize,
+    pub(crate) tail: usize,
     ghost placed: { Placed s.now end tail },
 }
 
 impl<'a> Web<'a> {
     ghost use Rattle.std.specs.Prelude.{◌≡◌, length};
-    ghost use Rattle.origin.specs.Origin.{shown_port, normal_form};
+    ghost use Rattle.origin.specs.Origin.{normal_form};
     ghost use Rattle.normal_forms.specs.code.Normals.{is_hidden, port_in, web_at, normal_by};
-    ghost use Rattle.normal_forms.specs.code.Writing.{Wrote};
 
     // The web origin that a text is.
     pub(crate) fn read(s: &'a [u8]) -> Option<Web<'a>>
@@ -29,7 +28,7 @@ impl<'a> Web<'a> {
     }
 
     // Its port is absent or 443.
-    fn is_hidden(&self) -> bool
+    pub(crate) fn is_hidden(&self) -> bool
         ensures { result ≡ is_hidden (port_in self.now) }
     {
         let from = self.end + 1;
@@ -48,27 +47,5 @@ impl<'a> Web<'a> {
         } else {
             self.tail
         }
-    }
-
-    // Its colon and port, unless absent or 443.
-    fn write_port(&self, out: &mut [u8], at: usize) -> usize
-        ensures { Wrote (shown_port (port_in self.now)) at out.old out.new result }
-    {
-        if self.is_hidden() {
-            return at;
-        }
-        crate::write_bytes(&self.s[self.end..self.tail], out, at)
-    }
-
-    // Its normal form, written as by write_bytes.
-    pub(crate) fn write(&self, out: &mut [u8], at: usize) -> usize
-        ensures { Wrote (web_at self.now) at out.old out.new result }
-    {
-        if !crate::fits(out.len(), at, self.length()) {
-            return at;
-        }
-        let host_at = crate::write_bytes(b"https://", out, at);
-        let port_at = crate::write_lower(&self.s[8..self.end], out, host_at);
-        self.write_port(out, port_at)
     }
 }

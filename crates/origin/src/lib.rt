@@ -1,7 +1,8 @@
 // Identifiers: web origins, native identities, facets, HTTPS URLs.
 #![tactic(auto)]
 
-ghost use Rattle.std.specs.Prelude.{◌≡◌, ◌≤◌, length, drop, Some};
+ghost use Rattle.std.specs.Prelude.{◌≡◌, ◌+◌, ◌≤◌, length, drop, Some};
+ghost use Rattle.ascii.specs.Ascii.{take_while};
 ghost use Rattle.origin.specs.Origin.{begins_https, begins_native, is_host_byte, read_port, read_host, read_https, web_origin, is_key_hash_byte, is_android, is_ios, is_native, is_facet, is_tail_byte, is_tail, https_url};
 ghost use Rattle.origin.specs.code.Parts.{part, is_end, begins_tail, port_of, without_port, HostEnd, Reads};
 
@@ -78,13 +79,20 @@ fn no_port(s: &[u8], end: usize) -> Option<Parts>
     })
 }
 
+// Where the letters, digits, hyphens and dots from a place on end.
+fn host_stop(s: &[u8], from: usize) -> usize
+    ensures { result ≡ from + length (take_while is_host_byte (drop from s.now)) }
+{
+    let classes = Classes::new();
+    ascii::run_end(s, from, |b| is_host_byte(&classes, b))
+}
+
 // Behind `https://`: a host, then the port.
 fn read_host(s: &[u8]) -> Option<Parts>
     requires { 8 ≤ length s.now }
     ensures { Reads s.now (read_host (drop 8 s.now)) result }
 {
-    let classes = Classes::new();
-    let end = ascii::run_end(s, 8, |b| is_host_byte(&classes, b));
+    let end = host_stop(s, 8);
     if hosts::is_host(&s[8..end]) {
         read_port(s, end)
     } else {
@@ -102,7 +110,7 @@ fn read_https(s: &[u8]) -> Option<Parts>
 fn is_end(t: &[u8]) -> bool
     ensures { result ≡ is_end t.now }
 {
-    if t.len() == 0 {
+    if t.is_empty() {
         return true;
     }
     ascii::equal(t, b"/")
@@ -144,7 +152,7 @@ fn begins_tail(t: &[u8]) -> bool
 fn is_tail(t: &[u8]) -> bool
     ensures { result ≡ is_tail t.now }
 {
-    if t.len() == 0 {
+    if t.is_empty() {
         return true;
     }
     if begins_tail(t) {
@@ -207,8 +215,7 @@ pub fn is_ios(s: &[u8]) -> bool
         return false;
     }
     if ascii::begins_with(s, b"ios:bundle-id:") {
-        let classes = Classes::new();
-        ascii::run_end(s, 14, |b| is_host_byte(&classes, b)) == s.len()
+        host_stop(s, 14) == s.len()
     } else {
         false
     }

@@ -1,4 +1,5 @@
 // Normal forms, and which caller matches what.
+use normal_forms::Writer;
 use std::io;
 
 // A text and its normal form.
@@ -6,7 +7,12 @@ fn form(rt: &impl Print, s: &[u8]) -> io::Result<()> {
     let mut out = [0u8; 64];
     rt.write_all(s)?;
     rt.write_all(b" = ")?;
-    let n = normal_forms::write_normal(s, &mut out, 0);
+    let mut to = Writer {
+        out: &mut out,
+        at: 0,
+    };
+    to.write_normal(s);
+    let n = to.at;
     rt.write_all(ascii::prefix(&out, n))?;
     rt.write_all(b"\n")
 }
@@ -26,7 +32,9 @@ pub fn normal_forms(rt: &impl Print) -> io::Result<()> {
 // Eleven bytes at a place of twelve: the twelve afterwards, and the place behind.
 fn room(rt: &impl Print, at: usize) -> io::Result<()> {
     let mut out = [b'.'; 12];
-    let n = normal_forms::write_normal(b"https://A.B/", &mut out, at);
+    let mut to = Writer { out: &mut out, at };
+    to.write_normal(b"https://A.B/");
+    let n = to.at;
     rt.write_all(&out)?;
     println!(rt; " {n}")
 }

@@ -114,7 +114,8 @@ fn fits_form(form: &[u8], s: &[u8]) -> bool
     form.iter().zip(s).all(|(p, b)| fits_byte(*p, *b))
 }
 
-// The status of a status line; the line is of text bytes.
+// The status of a status line; the line is of text bytes. Three functions ask for that by contract: a struct with it as a ghost field
+// would have to hold the head and two places besides, since `field_seen` gives a place of the head.
 fn read_status(line: &[u8]) -> Option<u16>
     requires { all is_text_byte line.now ≡ true }
     ensures { result ≡ read_status line.now }

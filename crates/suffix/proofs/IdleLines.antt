@@ -1,5 +1,5 @@
 -- Lines that find nothing for a host. Assumes nothing.
-use Rattle.std.specs.Prelude.{Option}
+use Rattle.std.specs.Prelude.{if◌then◌else◌, Option, Some, slice_get}
 use mathlib.Core.Path.{◌≡◌, refl, sym, ap, ◌∙◌}
 use mathlib.Core.Bool.{Bool, true, false, ◌&&◌, ◌||◌, and-eq-true_iff}
 use mathlib.Core.List.{List, [], ◌∷◌, map}
@@ -8,7 +8,7 @@ use native.Mathlib.Omega.{arith}
 use lib.ListN.{length, get_or, drop, length-drop, get_or-map}
 use lib.Seq.{drop-cons, get_or-drop}
 use lib.Dec.{eqb, leb, ltb}
-use borrow.Author.Tests.{ne_eqb, eqb-true, leb-true, le-ltb, ltb-false}
+use borrow.Author.Tests.{ne_eqb, eqb-true, eqb-false, leb-true, le-ltb, ltb-false}
 use Rattle.ascii.specs.Ascii.{Bytes, take_while, last_of, is_upper, lower_byte, lower, same, same_no_case, split_at, is_digit, is_letter, begins_with}
 use Rattle.ascii.proofs.Scan.{scan_to}
 use Rattle.ascii.proofs.Split.{join_split}
@@ -20,7 +20,7 @@ use Rattle.suffix.specs.code.Depth.{line_depth, lines_depth, Past}
 use Rattle.suffix.specs.code.Deeper.{goes_deeper}
 use Rattle.suffix.specs.declared.Sizes.{Sizes}
 use Rattle.suffix.specs.code.Passed.{lines_from}
-use Rattle.suffix.specs.code.Idle.{Idle, Shallow, last_byte, is_alphanumeric}
+use Rattle.suffix.specs.code.Idle.{Idle, Shallow, last_byte, is_alphanumeric, is_like}
 use Rattle.ascii.proofs.Compare.{same_eq}
 use Rattle.hosts.proofs.Ends.{true_false, labels_some, begin_labels, begin_is, ends_whole}
 use Rattle.hosts.proofs.Shapes.{host_empty}
@@ -139,6 +139,10 @@ brings_to host tail w m d h T e f = go (ends_at_label w host) refl e
 
 -- ---- last bytes
 
+-- the last byte, 0 where there is none
+unfoldable pub end_byte : Bytes → ℕ
+end_byte s = get_or s (length s - 1) 0
+
 lower_zero : lower_byte 0 ≡ 0
 unfolding lower_byte is_upper
 lower_zero = refl
@@ -147,8 +151,8 @@ last_lower : (s : Bytes) (n : ℕ) → get_or (lower s) n 0 ≡ lower_byte (get_
 unfolding lower
 last_lower s n = ap (get_or (map lower_byte s) n) (sym lower_zero) ∙ get_or-map lower_byte s n 0
 
-ends_last : (w h : Bytes) → 1 ≤ length w → ends_at_label w h ≡ true → lower_byte (last_byte w) ≡ lower_byte (last_byte h)
-unfolding ends_at_label same_no_case last_byte
+ends_last : (w h : Bytes) → 1 ≤ length w → ends_at_label w h ≡ true → lower_byte (end_byte w) ≡ lower_byte (end_byte h)
+unfolding ends_at_label same_no_case end_byte
 ends_last w h l e =
     let p = (and-eq-true_iff (leb (length w) (length h) && is_boundary (length h - length w) h) (same (lower (drop (length h - length w) h)) (lower w))).0 e in
     let q = (and-eq-true_iff (leb (length w) (length h)) (is_boundary (length h - length w) h)).0 p.0 in
@@ -158,8 +162,8 @@ ends_last w h l e =
     sym (last_lower w (length w - 1)) ∙ ap (λ (t : Bytes). get_or t (length w - 1) 0) (sym s) ∙ last_lower (drop (length h - length w) h) (length w - 1)
     ∙ ap lower_byte (get_or-drop (length h - length w) h (length w - 1) 0 ∙ ap (λ (n : ℕ). get_or h n 0) i)
 
-ends_empty : (w : Bytes) → 1 ≤ length w → ends_at_label [] w ≡ true → last_byte w ≡ 46
-unfolding ends_at_label is_boundary last_byte
+ends_empty : (w : Bytes) → 1 ≤ length w → ends_at_label [] w ≡ true → end_byte w ≡ 46
+unfolding ends_at_label is_boundary end_byte
 ends_empty w l e =
     let z : length w - 0 ≡ length w = omega arith in
     let p = (and-eq-true_iff (leb 0 (length w) && (eqb (length w - 0) 0 || eqb (get_or w (length w - 0 - 1) 0) 46)) (same_no_case (drop (length w - 0) w) [])).0 e in
@@ -171,14 +175,14 @@ ends_empty w l e =
 record Ending (host : Bytes) : Type 0 where
   pub tail : Bytes
   pub is : Past host tail 0
-  pub last : 1 ≤ length tail → last_byte tail ≡ last_byte host
+  pub last : 1 ≤ length tail → end_byte tail ≡ end_byte host
 
 last_label : (ls : List Bytes) → last_of 1 ls ≡ drop (length ls - 1) ls
 unfolding last_of
 last_label ls = refl
 
-last_drop : (k : ℕ) (s : Bytes) → k ≤ length s → 1 ≤ length (drop k s) → last_byte (drop k s) ≡ last_byte s
-unfolding last_byte
+last_drop : (k : ℕ) (s : Bytes) → k ≤ length s → 1 ≤ length (drop k s) → end_byte (drop k s) ≡ end_byte s
+unfolding end_byte
 last_drop k s h l =
     let i : k + (length (drop k s) - 1) ≡ length s - 1 = omega (arith, length-drop k s) in
     get_or-drop k s (length (drop k s) - 1) 0 ∙ ap (λ (n : ℕ). get_or s n 0) i
@@ -197,7 +201,7 @@ none_of : (b : Bool) → (b ≡ true → ⊥) → b ≡ false
 none_of true n = absurd (n refl)
 none_of false n = refl
 
-pub finds_unlike : (host w : Bytes) → is_host w ≡ true → is_alphanumeric (last_byte w) ≡ true → (lower_byte (last_byte w) ≡ lower_byte (last_byte host) → ⊥) → FindsTo host w 0
+pub finds_unlike : (host w : Bytes) → is_host w ≡ true → is_alphanumeric (end_byte w) ≡ true → (lower_byte (end_byte w) ≡ lower_byte (end_byte host) → ⊥) → FindsTo host w 0
 finds_unlike host w h p n =
     let E = ending host in
     finds_to host E.tail w 0 h E.is (none_of (ends_at_label w host) (λ e. n (ends_last w host some e))) (none_of (ends_at_label E.tail w) (apart E.tail E.last))
@@ -209,9 +213,34 @@ finds_unlike host w h p n =
         go zero e = true_false (sym h ∙ sym (host_empty w (omega arith)))
         go (suc k) e = omega arith
 
-    apart : (t : Bytes) → (1 ≤ length t → last_byte t ≡ last_byte host) → ends_at_label t w ≡ true → ⊥
-    apart [] f e = no_plain (last_byte w) 46 p (ends_empty w some e) dot_plain
+    apart : (t : Bytes) → (1 ≤ length t → end_byte t ≡ end_byte host) → ends_at_label t w ≡ true → ⊥
+    apart [] f e = no_plain (end_byte w) 46 p (ends_empty w some e) dot_plain
     apart (b ∷ t) f e = n (sym (ends_last (b ∷ t) w (omega arith) e) ∙ ap lower_byte (f (omega arith)))
+
+-- a letter or digit that is not like the last byte of the host, which may have none
+get_last : (b : ℕ) (s : Bytes) (i : ℕ) → i ≤ length s → slice_get (b ∷ s) i ≡ Some (get_or (b ∷ s) i 0)
+get_last b s zero h = refl
+get_last b [] (suc i) h = absurd (omega arith)
+get_last b (c ∷ s) (suc i) h = get_last c s i (omega arith)
+
+zero_plain : is_alphanumeric 0 ≡ false
+unfolding is_alphanumeric is_letter is_upper is_digit
+zero_plain = refl
+
+lower_plain : (b : ℕ) → lower_byte b ≡ 0 → b ≡ 0
+unfolding lower_byte
+lower_plain b e = go (is_upper b) e
+  where
+    go : (u : Bool) → (if u then b + 32 else b) ≡ 0 → b ≡ 0
+    go true e = omega arith
+    go false e = e
+
+pub unlike : (host : Bytes) (b : ℕ) → is_alphanumeric b ≡ true → is_like (last_byte host) b ≡ false → lower_byte b ≡ lower_byte (end_byte host) → ⊥
+unfolding last_byte is_like end_byte
+unlike [] b p n e = no_plain b 0 p (lower_plain b (e ∙ lower_zero)) zero_plain
+unlike (c ∷ s) b p n e =
+    let z : suc (length s) - 1 ≡ length s = omega arith in
+    eqb-false (lower_byte b) (lower_byte (get_or (c ∷ s) (length s) 0)) (rw (z, get_last c s (length s) (omega arith)) at n) (rw z at e)
 
 -- ---- the host's last labels, one more than the depth d
 

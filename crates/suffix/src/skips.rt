@@ -6,7 +6,7 @@ ghost use Rattle.ascii.specs.Ascii.{take_while};
 ghost use Rattle.hosts.specs.Host.{labels};
 ghost use Rattle.hosts.specs.code.Place.{ends_at_label};
 ghost use Rattle.suffix.specs.code.Pass.{in_line, in_content};
-ghost use Rattle.suffix.specs.code.Idle.{Skipped, SkippedLine, last_byte, kind_of, KindsOf, step_of, stop_of, Stopped, ShallowBy};
+ghost use Rattle.suffix.specs.code.Idle.{Skipped, SkippedLine, is_like, kind_in, KindBy, KindsOf, KindsBy, step_of, stop_of, StoppedBy, Shallows, ShallowBy};
 
 use crate::in_content;
 use ascii::classes::Classes;
@@ -33,28 +33,21 @@ const BLANKS: ByteRange = ByteRange {
     hi: b' ',
 };
 
-fn wide(x: u8) -> usize
-    ensures { (result ≡ x) × (result < 256) }
+// A byte that is alike to the last one that there is.
+fn is_like(last: Option<u8>, b: u8) -> bool
+    ensures { result ≡ is_like last b }
 {
-    x as usize
-}
-
-fn last_byte(s: &[u8]) -> u8
-    ensures { result ≡ last_byte s.now }
-{
-    if s.len() == 0 {
-        return 0;
-    }
-    s[s.len() - 1]
+    last.is_some_and(|c| ascii::alike(b, c))
 }
 
 // 0 a letter or digit, 1 one alike to `last`, 6 the hyphen, 7 the dot, 8 LF, 9 the rest. Numbers, since `advance` adds them.
-fn kind_of(classes: &Classes, last: u8, b: u8) -> u8
-    ensures { result ≡ kind_of last b }
+// The table of classes is lent.
+fn kind_of(classes: &[u8; 256], last: Option<u8>, b: u8) -> u8
+    ensures { KindBy classes.now last b result }
 {
     // a letter or a digit
-    if classes.class_of(b) < 2 {
-        if ascii::alike(b, last) {
+    if classes[usize::from(b)] < 2 {
+        if is_like(last, b) {
             return 1;
         }
         return 0;
@@ -71,7 +64,16 @@ fn kind_of(classes: &Classes, last: u8, b: u8) -> u8
     9
 }
 
-// A host, and the kind of each byte value for it.
+// The kind of each byte value, for a host, by such a table.
+pub fn kinds_by(classes: &[u8; 256], host: &[u8]) -> [u8; 256]
+    ensures { KindsBy classes.now host.now result }
+{
+    let last = host.last().copied();
+    // b is below 256
+    array::from_fn(|b| kind_of(classes, last, b as u8))
+}
+
+// A host, and the kind of each byte value for it: a type, so that a caller of its method has no other table to hand over.
 #[derive(Clone, Copy)]
 pub struct Kinds<'a> {
     pub host: &'a [u8],
@@ -83,16 +85,22 @@ impl<'a> Kinds<'a> {
     pub fn new(classes: &Classes, host: &'a [u8]) -> Kinds<'a>
         ensures { result.host.now ≡ host.now }
     {
-        let last = last_byte(host);
-        let table = array::from_fn(|b| kind_of(classes, last, b as u8));
+        let table = kinds_by(classes.table(), host);
         Kinds { host, table }
     }
 
-    fn kind(&self, b: u8) -> u8
-        ensures { result ≡ kind_of (last_byte self.now.host.now) b }
+    // The function `idle_lines` by the kinds for the host.
+    pub fn idle_lines(&self, most: usize, depth: usize, last: usize, s: &[u8], from: usize) -> usize
+        ensures { Shallows self.now.host.now s.now most depth last from result }
     {
-        self.table[b as usize]
+        idle_lines(&self.table, self.host, most, depth, last, s, from)
     }
+}
+
+fn kind(kinds: &[u8; 256], b: u8) -> u8
+    ensures { result ≡ kind_in kinds.now b }
+{
+    kinds[usize::from(b)]
 }
 
 // Behind an LF, whose kind is 8, a new line begins.
@@ -105,12 +113,12 @@ fn line_start(k: u8, start: usize, next: usize) -> usize
 // The byte at a place of a line, behind one of a kind: where its line begins, and its kind. The kinds are numbered so that it may
 // stand there where one sum is at most 24: a letter or digit (0 or 3) behind any byte; a hyphen (18) behind all but dot (7) and LF (8);
 // a dot (21) behind a letter or digit (0 or 1); an LF (24) behind one that is not alike to the host's last byte (0).
-fn advance(kinds: &Kinds, s: &[u8], at: usize, before: u8, start: usize) -> Option<(usize, u8)>
+fn advance(kinds: &[u8; 256], s: &[u8], at: usize, before: u8, start: usize) -> Option<(usize, u8)>
     requires { at < length s.now }
-    ensures { result ≡ step_of (kind_of (last_byte kinds.now.host.now) (get_or s.now at 0)) before start (at + 1) }
+    ensures { result ≡ step_of (kind_in kinds.now (get_or s.now at 0)) before start (at + 1) }
 {
-    let k = kinds.kind(s[at]);
-    let sum = wide(before) + 3 * wide(k);
+    let k = kind(kinds, s[at]);
+    let sum = usize::from(before) + 3 * usize::from(k);
     if 24 < sum {
         return None;
     }
@@ -118,11 +126,11 @@ fn advance(kinds: &Kinds, s: &[u8], at: usize, before: u8, start: usize) -> Opti
 }
 
 // Such a byte that may not stand there: the LF (8) behind a byte alike to the host's last (1) ends a host, all else another line.
-fn halt(kinds: &Kinds, s: &[u8], at: usize, before: u8, start: usize) -> Stop
+fn halt(kinds: &[u8; 256], s: &[u8], at: usize, before: u8, start: usize) -> Stop
     requires { at < length s.now }
-    ensures { result ≡ stop_of (kind_of (last_byte kinds.now.host.now) (get_or s.now at 0)) before start at }
+    ensures { result ≡ stop_of (kind_in kinds.now (get_or s.now at 0)) before start at }
 {
-    let k = kinds.kind(s[at]);
+    let k = kind(kinds, s[at]);
     if k == 8 {
         if before == 1 {
             return Stop::Host(start, at);
@@ -134,9 +142,9 @@ fn halt(kinds: &Kinds, s: &[u8], at: usize, before: u8, start: usize) -> Stop
 // Over lines that are hosts whose last byte is not alike to the host's: these cannot match it, nor go deeper than its last label.
 // Four bytes a turn, so that the end and the line's length are tested once for four, which an iterator does for each byte. A
 // line of 60 bytes or more is left to others: a shorter one has at most 63 behind the turn, and so no label that is too long.
-fn plain_lines(kinds: &Kinds, s: &[u8], from: usize) -> Stop
+fn plain_lines(kinds: &[u8; 256], host: &[u8], s: &[u8], from: usize) -> Stop
     requires { from ≤ length s.now }
-    ensures { Stopped kinds.now.host.now s.now from result }
+    ensures { StoppedBy kinds.now host.now s.now from result }
 {
     let mut start = from;
     // as behind an LF
@@ -267,25 +275,27 @@ fn is_idle(host: &[u8], tail: &[u8], most: usize, w: &[u8]) -> bool
 
 // The first line that may match the host in more labels than most or be an exception, or go deeper than more of its labels than
 // the depth, whose labels and one more begin at last. Where last lies behind the host's end, which no caller gives, nothing is passed
-// over. A loop, since each turn begins where the pass before it stopped.
+// over. A place at the table's end or behind it says that no such line is left: a place like any other, from which the caller's lines
+// go on, so no Option. The depth is read by the contract alone, which can speak of arguments only. A loop, since each turn begins where
+// the pass before it stopped.
 pub fn idle_lines(
-    kinds: &Kinds,
+    kinds: &[u8; 256],
+    host: &[u8],
     most: usize,
     depth: usize,
     last: usize,
     s: &[u8],
     from: usize,
 ) -> usize
-    ensures { ShallowBy kinds.now.host.now s.now most depth last from result }
+    ensures { ShallowBy kinds.now host.now s.now most depth last from result }
 {
-    let host = kinds.host;
     if host.len() < last {
         return from;
     }
     let tail = &host[last..];
     let mut at = from;
     while at < s.len() {
-        let found = plain_lines(kinds, s, at);
+        let found = plain_lines(kinds, host, s, at);
         match found {
             Stop::Host(start, to) => {
                 if is_idle(host, tail, most, &s[start..to]) {

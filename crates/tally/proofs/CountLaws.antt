@@ -2,19 +2,17 @@
 use Rattle.std.specs.Prelude.{if◌then◌else◌, Option, None, Some}
 use mathlib.Core.Path.{◌≡◌, refl, sym, ap, ◌∙◌}
 use mathlib.Core.List.{List, [], ◌∷◌}
-use Prim.Native.Nat.{ℕ, suc, ◌+◌, ◌≤◌, ◌<◌}
+use Prim.Native.Nat.{ℕ, suc, ◌+◌, ◌≤◌}
 use native.Mathlib.Omega.{arith}
 use lib.Dec.{eqb}
 use lib.ListN.{length}
 use Rattle.ascii.specs.Ascii.{Bytes, filter_by}
 use Rattle.entries.specs.Causes.{cause}
 use Rattle.entries.specs.code.Selecting.{listed}
-use Rattle.entries.specs.code.Walking.{to_come, Walk, Advances}
 use Rattle.entries.specs.declared.selected.Selected.{Selected}
-use Rattle.entries.specs.declared.walk.Entries.{Entries}
 use Rattle.entries.specs.declared.Cause.{Cause}
 use Rattle.entries.specs.declared.Cause.TheVariants.{TooLong, OtherScheme, NotFacet, OtherLabel}
-use Rattle.entries.proofs.Walks.{list_short, all_gone, Turn, turn, turn_less}
+use Rattle.entries.proofs.Walks.{list_short}
 use Rattle.tally.specs.Tally.{cause_number, Counts, count_of, counts}
 use Rattle.tally.specs.code.Meaning.{counts_of, one, plus, Under}
 use Rattle.tally.specs.declared.Counts.{Counts as Held}
@@ -89,13 +87,12 @@ module _ (c : Held) {x : Option Cause} where
 
 -- ---- the loop
 
--- the walk goes on, after the entries that c counts
-pub record Counting (l : Selected) (goal : Counts) (w : Entries) (c : Held) : Type 0 where
-  pub list_is : w.list.now ≡ l
+-- c counts the entries before these
+pub record Counting (l : Selected) (es : List Bytes) (c : Held) : Type 0 where
   pub turns : ℕ
   pub small : Under turns c
-  pub few : turns + length (to_come w) ≤ 65536
-  pub is : plus (counts_of c) (counts l.appid.now l.table.now (to_come w)) ≡ goal
+  pub few : turns + length es ≤ 65536
+  pub is : plus (counts_of c) (counts l.appid.now l.table.now es) ≡ counts l.appid.now l.table.now (listed l)
 
 under_more : {n : ℕ} {c r : Held} (x : Option Cause) → counts_of r ≡ plus (counts_of c) (one x) → Under n c → Under (suc n) r
 unfolding counts_of plus
@@ -116,44 +113,35 @@ under_more {n} {c} {r} x e U =
     one_small (Some NotFacet) = unfold one in (omega arith, omega arith, omega arith, omega arith, omega arith)
     one_small (Some OtherLabel) = unfold one in (omega arith, omega arith, omega arith, omega arith, omega arith)
 
-pub count_starts : {l : Selected} {w : Entries} → Walk l (listed l) w → Counting l (counts l.appid.now l.table.now (listed l)) w (record { kept = 0; long = 0; scheme = 0; facet = 0; label = 0 })
-count_starts {l} {w} W = record {
-  list_is = W.list_is;
+pub count_starts : (l : Selected) → Counting l (listed l) (record { kept = 0; long = 0; scheme = 0; facet = 0; label = 0 })
+count_starts l = record {
   turns = 0;
   small = record { kept = omega arith; long = omega arith; scheme = omega arith; facet = omega arith; label = omega arith };
-  few = omega (arith, ap length W.coming_is, list_short l);
-  is = plus_nothing (counts l.appid.now l.table.now (to_come w)) ∙ ap (counts l.appid.now l.table.now) W.coming_is;
+  few = omega (arith, list_short l);
+  is = plus_nothing (counts l.appid.now l.table.now (listed l));
 }
 
-module _ {l : Selected} {goal : Counts} {w : Entries} {c : Held} (S : Counting l goal w c) {v : Entries} {r : Option (Option Cause)} (A : Advances w v r) where
-  pub count_over : r ≡ None → counts_of c ≡ goal
-  count_over h = sym (ap (plus (counts_of c)) (ap (counts l.appid.now l.table.now) (all_gone A h) ∙ counts_none l.appid.now l.table.now) ∙ plus_none (counts_of c)) ∙ S.is
+pub count_over : {l : Selected} {c : Held} → Counting l [] c → counts_of c ≡ counts l.appid.now l.table.now (listed l)
+count_over {l} {c} S = sym (ap (plus (counts_of c)) (counts_none l.appid.now l.table.now) ∙ plus_none (counts_of c)) ∙ S.is
 
-  module _ {x : Option Cause} (h : r ≡ Some x) where
-    T : Turn l w v x
-    T = turn A S.list_is h
+module _ {l : Selected} {e : Bytes} {es : List Bytes} {c : Held} (S : Counting l (e ∷ es) c) where
+  pub count_room : Under 65536 c
+  count_room =
+      let U = S.small in
+      record {
+        kept = omega (arith, U.kept, S.few);
+        long = omega (arith, U.long, S.few);
+        scheme = omega (arith, U.scheme, S.few);
+        facet = omega (arith, U.facet, S.few);
+        label = omega (arith, U.label, S.few);
+      }
 
-    pub count_less : length (to_come v) < length (to_come w)
-    count_less = turn_less T
-
-    pub count_room : Under 65536 c
-    count_room =
-        let U = S.small in
-        record {
-          kept = omega (arith, U.kept, S.few, count_less);
-          long = omega (arith, U.long, S.few, count_less);
-          scheme = omega (arith, U.scheme, S.few, count_less);
-          facet = omega (arith, U.facet, S.few, count_less);
-          label = omega (arith, U.label, S.few, count_less);
-        }
-
-    pub count_more : (d : Held) → counts_of d ≡ plus (counts_of c) (one x) → Counting l goal v d
-    count_more d a = record { list_is = T.list_is; turns = suc S.turns; small = under_more {c = c} {r = d} x a S.small; few = omega (arith, S.few, count_less); is = is }
-      where
-        is : plus (counts_of d) (counts l.appid.now l.table.now (to_come v)) ≡ goal
-        is =
-            ap (λ (y : Counts). plus y (counts l.appid.now l.table.now (to_come v))) a
-            ∙ plus_assoc (counts_of c) (one x) (counts l.appid.now l.table.now (to_come v))
-            ∙ ap (λ (y : Option Cause). plus (counts_of c) (plus (one y) (counts l.appid.now l.table.now (to_come v)))) T.cause_is
-            ∙ ap (plus (counts_of c)) (sym (counts_more l.appid.now l.table.now T.entry (to_come v)) ∙ ap (counts l.appid.now l.table.now) (sym T.whole))
-            ∙ S.is
+  pub count_more : {d : Held} → counts_of d ≡ plus (counts_of c) (one (cause l.appid.now l.table.now e)) → Counting l es d
+  count_more {d} a = record { turns = suc S.turns; small = under_more {c = c} {r = d} (cause l.appid.now l.table.now e) a S.small; few = omega (arith, S.few); is = is }
+    where
+      is : plus (counts_of d) (counts l.appid.now l.table.now es) ≡ counts l.appid.now l.table.now (listed l)
+      is =
+          ap (λ (y : Counts). plus y (counts l.appid.now l.table.now es)) a
+          ∙ plus_assoc (counts_of c) (one (cause l.appid.now l.table.now e)) (counts l.appid.now l.table.now es)
+          ∙ ap (plus (counts_of c)) (sym (counts_more l.appid.now l.table.now e es))
+          ∙ S.is

@@ -1,12 +1,11 @@
 -- The sets of laws that answer needs.
 use borrow.Author.Rules.{rules}
-use Rattle.entries.proofs.Walks.{less_on}
-use Rattle.tally.proofs.CountLaws.{add_kept, add_long, add_scheme, add_facet, add_label, count_starts, count_over, count_less, count_room, count_more}
+use Rattle.tally.proofs.CountLaws.{add_kept, add_long, add_scheme, add_facet, add_label, count_room, count_more}
 use Rattle.tally.proofs.CallLaws.{tally_refused, tally_counted}
 
 pub ruleset laws = (add_kept, add_long, add_scheme, add_facet, add_label, rules)
 
-pub ruleset counting = (count_starts, count_over, count_less, less_on, count_room, rules)
+pub ruleset counting = (count_room, rules)
 
 -- its turn alone: a search that fails then tries every way
 pub ruleset count_turn = (count_more, rules)

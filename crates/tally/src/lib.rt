@@ -53,18 +53,14 @@ fn add(c: Counts, cause: Option<Cause>) -> Counts
 fn count_ids(list: &Selected) -> Counts
     ensures { counts_of result ≡ counts list.now.appid.now list.now.table.now (listed list.now) }
 {
-    let mut c = Counts {
+    let none = Counts {
         kept: 0,
         long: 0,
         scheme: 0,
         facet: 0,
         label: 0,
     };
-    let mut entries = list.entries();
-    while let Some(cause) = entries.advance() {
-        c = add(c, cause);
-    }
-    c
+    list.fold(none, &mut |c, cause, _entry| add(c, cause))
 }
 
 // Refusals as of cleaning, but for 15; or the counts.

@@ -18,10 +18,11 @@ use Rattle.json_values.specs.Json.{Json, array, object, to_items, to_members, re
 use Rattle.json_values.specs.code.Folds.{reading, Relates}
 use Rattle.trusted_list.specs.TrustedList.{as_string, values_of, only, once, read_number16, Version, read_version, strings, read_ids, Listing, read_listing, listings, read_listings, read_list, is_wanted, select}
 use Rattle.trusted_list.specs.code.Slots.{Extends, Came, Once, never, one, again, Name, Names, number_slot, NumberIs, version_slot, VersionIs, version_of, ids_at, IdsIs, no_ids, ids_held, is_string, strings_slot, Strings, ids_of, ListingIs, no_listing, not_wanted, the_wanted, listing_of, Selects, misshapen, nothing, selects, Listings, ListIs, earlier, BodyIs, no_list, list_is}
-use Rattle.trusted_list.specs.code.Levels.{Item, opening, closing, read_item, whole, Another, Closes, ElseSpoiled}
+use Rattle.json_values.specs.code.Kinds.{Item, opening, closing}
+use Rattle.trusted_list.specs.code.Levels.{read_item, whole, Another, Closes, ElseSpoiled}
 use Rattle.trusted_list.specs.code.LevelFacts.{spoiled_came}
-use Rattle.trusted_list.specs.declared.Kind.{Kind}
-use Rattle.trusted_list.specs.declared.Kind.TheVariants.{Array, Object}
+use Rattle.json_values.specs.declared.Kind.{Kind}
+use Rattle.json_values.specs.declared.Kind.TheVariants.{Array, Object}
 use Rattle.trusted_list.specs.declared.Slot.{Slot}
 use Rattle.trusted_list.specs.declared.Slot.TheVariants.{Absent, Held, Other, Spoiled}
 use Rattle.trusted_list.specs.declared.Two.{Two}

@@ -11,13 +11,14 @@ use Rattle.json_text.specs.Reader.{Read, got, Reader}
 use Rattle.json_text.specs.code.Places.{read_at, place_of}
 use Rattle.json_text.proofs.Steps.{wide, wide_is, not_this}
 use Rattle.json_values.specs.Json.{listed, read_member, read_value}
-use Rattle.json_values.specs.code.Folds.{reading, Relates, unread, related, GoesOn, Ends, Folded, before_all, one_behind, values, members, FoldsListed}
+use Rattle.json_values.specs.code.Folds.{reading, Relates, unread, related, GoesOn, Ends, Folded, before_all, one_behind, FoldsListed}
 use Rattle.json_values.proofs.Readings.{was_read}
 use Rattle.json_values.proofs.Folding.{goes_on}
 use Rattle.trusted_list.specs.code.Slots.{Extends}
-use Rattle.trusted_list.specs.code.Levels.{Item, opening, closing, start, read_item}
-use Rattle.trusted_list.specs.declared.Kind.{Kind}
-use Rattle.trusted_list.specs.declared.Kind.TheVariants.{Array, Object}
+use Rattle.trusted_list.specs.code.Levels.{start, read_item}
+use Rattle.json_values.specs.code.Kinds.{Item, opening, closing}
+use Rattle.json_values.specs.declared.Kind.{Kind}
+use Rattle.json_values.specs.declared.Kind.TheVariants.{Array, Object}
 use Rattle.trusted_list.specs.declared.Two.{Two}
 
 -- ---- the byte at a place, compared with the opening bracket
@@ -73,5 +74,5 @@ module _ {j k : Kind} where
 
 pub walked : (k : Kind) (n : ℕ) {close from : ℕ} {R : List (Item k) → Two → Type 0} {post : ℕ → Two → Option (ℕ × Two) → Type 0} {s : Bytes} {x : Two} {r : Option (ℕ × Two)}
     → FoldsListed post s from close x r → Extending R post (read_item k n) s → R [] x → close ≡ closing k → Relates R (read_at (listed (read_item k n) (closing k ∷ [])) s from) (reading r)
-walked Array n F S b c = rw (← c) (relates_by (λ vs y f. held_of S b f) (F.is values (read_value n) (extending_ends S)))
-walked Object n F S b c = rw (← c) (relates_by (λ vs y f. held_of S b f) (F.is members (read_member (read_value n)) (extending_ends S)))
+walked Array n F S b c = rw (← c) (relates_by (λ vs y f. held_of S b f) (F.is Array (read_value n) (extending_ends S)))
+walked Object n F S b c = rw (← c) (relates_by (λ vs y f. held_of S b f) (F.is Object (read_member (read_value n)) (extending_ends S)))

@@ -11,10 +11,12 @@ ghost use Rattle.json_values.specs.Json.{Json, listed, read_value};
 ghost use Rattle.json_values.specs.code.Folds.{reading, Relates};
 ghost use Rattle.trusted_list.specs.code.Entries.{first_entry, next_entry};
 ghost use Rattle.trusted_list.specs.code.LevelFacts.{names_start, name_start, strings_start, listings_start, version_else, ids_else, listing_else, list_else, body_else};
-ghost use Rattle.trusted_list.specs.code.Levels.{Item, opening, closing, start, read_item, Closes, ElseSpoiled};
+ghost use Rattle.trusted_list.specs.code.Levels.{start, read_item, Closes, ElseSpoiled};
 ghost use Rattle.trusted_list.specs.code.Slots.{Extends, Came, Name, Names, fill, first_filled, second_filled, version_of, ids_of, listing_of, earlier, NumberIs, VersionIs, IdsIs, ListingIs, ListIs, BodyIs, Strings, Listings, Answers};
-ghost use Rattle.trusted_list.specs.declared.Kind.TheVariants.{Array, Object};
+ghost use Rattle.json_values.specs.declared.Kind.TheVariants.{Array, Object};
+ghost use Rattle.json_values.specs.code.Kinds.{Item, opening, closing};
 
+use json_values::Kind;
 use refusals::Refusal;
 
 // What the pass holds of a value that must have a shape: it did not come; it came and is good, with a number or a
@@ -22,6 +24,7 @@ use refusals::Refusal;
 // No Option or Result, which tell two apart: the level above judges each of the four in its own way. `fill` takes a value
 // only after Absent, `earlier` only after Other, `listing_slot` tells Held from Other, and Spoiled spoils all.
 // What is held is one number for each level: of a version's members their values, of ids their place, of a whole version nothing (0).
+// A `usize` and no type parameter: a parameter would stand in every signature between, for three meanings of which each level has one.
 #[derive(Clone, Copy)]
 pub enum Slot {
     Absent,
@@ -82,39 +85,10 @@ fn read_number(s: &[u8], from: usize) -> Option<(usize, Slot)>
     let Some(n) = ascii::decimals::read_number(&s[from..j]) else {
         return Some((j, Slot::Spoiled));
     };
-    Some((j, Slot::Held(n as usize)))
+    Some((j, Slot::Held(usize::from(n))))
 }
 
 // ---- what stands between two brackets
-
-// An array or an object: the two kinds of JSON values with elements.
-#[derive(Clone, Copy)]
-pub enum Kind {
-    Array,
-    Object,
-}
-
-// The opening bracket.
-#[tactic(auto, unfolding(crate::specs::code::Levels::opening))]
-fn opening(kind: Kind) -> u8
-    ensures { result ≡ opening kind }
-{
-    match kind {
-        Kind::Array => b'[',
-        Kind::Object => b'{',
-    }
-}
-
-// The closing bracket.
-#[tactic(auto, unfolding(crate::specs::code::Levels::closing))]
-fn closing(kind: Kind) -> u8
-    ensures { result ≡ closing kind }
-{
-    match kind {
-        Kind::Array => b']',
-        Kind::Object => b'}',
-    }
-}
 
 // What is held before the first element: nothing in an array is wrong, no name of an object has come.
 #[tactic(auto, unfolding(crate::specs::code::Levels::start))]
@@ -132,7 +106,7 @@ fn start(kind: Kind) -> Two
 // One level of the body, an array or an object of some shape: how an element between its brackets is read, and what is
 // found of the whole value by those that are held.
 trait Level {
-    ghost use Rattle.trusted_list.specs.declared.Kind.{Kind};
+    ghost use Rattle.json_values.specs.declared.Kind.{Kind};
     ghost use Rattle.trusted_list.specs.declared.Slot.{Slot};
     ghost use Rattle.trusted_list.specs.declared.Two.{Two};
 
@@ -174,7 +148,7 @@ fn walk<L: Level>(level: &L, s: &[u8], from: usize) -> Option<(usize, Two)>
     json_values::fold_listed(
         s,
         from,
-        closing(kind),
+        kind.closing(),
         start(kind),
         |at: usize, two: Two| -> Option<(usize, Two)>
             ensures { Relates (Extends (L.holds level.entry.now s.entry.now) two) (read_at (read_item L.KIND (L.LEFT - 1)) s.entry.now at) (reading result) }
@@ -186,7 +160,7 @@ fn walk<L: Level>(level: &L, s: &[u8], from: usize) -> Option<(usize, Two)>
 fn read_level<L: Level>(level: &L, s: &[u8], from: usize) -> Option<(usize, Slot)>
     ensures { Relates (L.finds level.now s.now) (read_at (read_value L.LEFT) s.now from) (reading result) }
 {
-    if json_text::byte_at(s, from) == Some(opening(L::KIND)) {
+    if json_text::byte_at(s, from) == Some(L::KIND.opening()) {
         let (j, two) = walk(level, s, from + 1)?;
         let x = level.slot(from, two);
         return Some((j, x));
@@ -251,10 +225,10 @@ fn version_slot(two: Two, wanted: Version) -> Slot
     let Slot::Held(n) = two.second else {
         return Slot::Spoiled;
     };
-    if m != wanted.major as usize {
+    if m != usize::from(wanted.major) {
         return Slot::Other;
     }
-    if n != wanted.minor as usize {
+    if n != usize::from(wanted.minor) {
         return Slot::Other;
     }
     Slot::Held(0)

@@ -3,7 +3,8 @@ use Rattle.std.specs.Prelude.{◌≡◌, Bool, true, false, List, ◌++◌, map,
 use Prim.Native.Char.{code}
 use Rattle.ascii.specs.Ascii.{Bytes, text, prefixed, join_with, decimal, written_over}
 use Rattle.origin.specs.Origin.{normal_form}
-use Rattle.normal_forms.specs.code.Writing.{Wrote}
+use Rattle.normal_forms.specs.code.Writing.{Puts}
+use Rattle.normal_forms.specs.declared.writer.Writer.{Writer}
 use Rattle.entries.specs.Causes.{kept}
 use Rattle.entries.specs.code.Selecting.{listed}
 use Rattle.entries.specs.declared.selected.Selected.{Selected}
@@ -36,8 +37,8 @@ ids_text true xs = join_with (code ",") (map quoted xs)
 ids_text false xs = prefixed (code ",") (map quoted xs)
 
 -- an id is written, where there is room for it
-pub record IdWrote (first : Bool) (entry : Bytes) (at : ℕ) (before after : Bytes) (r : ℕ) : Type 0 where
-  pub is : at + length (id_text first (normal_form entry)) ≤ length before → Wrote (id_text first (normal_form entry)) at before after r
+pub record IdPuts (first : Bool) (entry : Bytes) (before after : Writer) : Type 0 where
+  pub is : before.at + length (id_text first (normal_form entry)) ≤ length before.out.now → Puts (id_text first (normal_form entry)) before after
 
 -- ---- the whole list
 

@@ -10,7 +10,7 @@ use Rattle.trusted_list.specs.code.Slots.{ids_at}
 use Rattle.trusted_list.specs.code.Entries.{next_entry}
 use Rattle.entries.specs.Causes.{cause}
 use Rattle.entries.specs.code.Owner.{Owned}
-use Rattle.entries.specs.declared.Owner.{Owner}
+use Rattle.label_lookup.specs.declared.Owner.{Owner}
 use Rattle.entries.specs.declared.Entry.{Entry}
 
 -- ---- one entry
@@ -29,13 +29,13 @@ pub record EntryIs (appid table body e : Bytes) (j : ℕ) (d : Decoded) (r : Ent
   -- the next one
   pub next_is : r.next ≡ next_entry body j
 
--- the entry at a place
-pub record Reads (body : Bytes) (at : ℕ) (appid : Bytes) (o : Owner) (table : Bytes) (d : Decoded) (r : Entry) : Type 0 where
-  pub is : Owned appid table o → (e : Bytes) (j : ℕ) → read_at read_string body at ≡ got e j → EntryIs appid table body e j d r
-
--- the same for an AppID whose owner this is known to be
+-- the entry at a place, for an AppID and table
 pub record ReadsOf (body : Bytes) (at : ℕ) (appid table : Bytes) (d : Decoded) (r : Entry) : Type 0 where
   pub is : (e : Bytes) (j : ℕ) → read_at read_string body at ≡ got e j → EntryIs appid table body e j d r
+
+-- the same for every AppID for which this is held
+pub record Reads (body : Bytes) (at : ℕ) (o : Option Owner) (table : Bytes) (d : Decoded) (r : Entry) : Type 0 where
+  pub is : (appid : Bytes) → ∥ Owned appid table o ∥₁ → ReadsOf body at appid table d r
 
 -- ---- all of them
 

@@ -1,8 +1,8 @@
 use Rattle.fetch_record.proofs.Laws.{record_laws}
 use Rattle.fetch_record.proofs.read_end.Goals as goal
 
-pub returns-then-s-eq0 : goal.returns-then-s-eq0
-returns-then-s-eq0 c = search record_laws
+pub returns-then-is_empty : goal.returns-then-is_empty
+returns-then-is_empty c = search record_laws
 
 pub returns-then-s-ne4 : goal.returns-then-s-ne4
 returns-then-s-ne4 c = search record_laws

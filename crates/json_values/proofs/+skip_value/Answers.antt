@@ -1,7 +1,7 @@
 use native.Mathlib.Omega.{arith}
 use Rattle.json_text.proofs.Steps.{took, left}
 use Rattle.json_values.specs.Json.{read_member, read_value}
-use Rattle.json_values.specs.code.Folds.{values, members}
+use Rattle.json_values.specs.declared.Kind.TheVariants.{Array, Object}
 use Rattle.json_values.proofs.Folding.{goes_on}
 use Rattle.json_values.proofs.Values.{value_array, value_object, value_deep_array, value_deep_object, value_number}
 use Rattle.json_values.proofs.Laws.{fits, laws}
@@ -38,10 +38,10 @@ pub skip_value-returns-in-34 : goal.skip_value-returns-in-34
 skip_value-returns-in-34 t c = search laws
 
 pub skip_value-returns-in_ok-inner-in-91 : goal.skip_value-returns-in_ok-inner-in-91
-skip_value-returns-in_ok-inner-in-91 t c = value_array c.args.left c.byte_at.ensures (took c.branch-b.ensures c.in_ok-b.is) c.in-91.is c.checked_sub.ensures (took c.branch-inner.ensures c.in_ok-inner-in-91.is) (c.skip_listed.ensures.is values (read_value c.in_ok-inner-in-91.inner) (record { is = λ i x q p. p }))
+skip_value-returns-in_ok-inner-in-91 t c = value_array c.args.left c.byte_at.ensures (took c.branch-b.ensures c.in_ok-b.is) c.in-91.is c.checked_sub.ensures (took c.branch-inner.ensures c.in_ok-inner-in-91.is) (c.skip_listed.ensures.is Array (read_value c.in_ok-inner-in-91.inner) (record { is = λ i x q p. p }))
 
 pub skip_value-returns-in_ok-inner-in-123 : goal.skip_value-returns-in_ok-inner-in-123
-skip_value-returns-in_ok-inner-in-123 t c = value_object c.args.left c.byte_at.ensures (took c.branch-b.ensures c.in_ok-b.is) c.in-123.is c.checked_sub-in-123.ensures (took c.branch-inner-in-123.ensures c.in_ok-inner-in-123.is) (c.skip_listed-in-123.ensures.is members (read_member (read_value c.in_ok-inner-in-123.inner)) (record { is = λ i x q p. p }))
+skip_value-returns-in_ok-inner-in-123 t c = value_object c.args.left c.byte_at.ensures (took c.branch-b.ensures c.in_ok-b.is) c.in-123.is c.checked_sub-in-123.ensures (took c.branch-inner-in-123.ensures c.in_ok-inner-in-123.is) (c.skip_listed-in-123.ensures.is Object (read_member (read_value c.in_ok-inner-in-123.inner)) (record { is = λ i x q p. p }))
 
 pub skip_value-returns-in-102 : goal.skip_value-returns-in-102
 skip_value-returns-in-102 t c = search laws

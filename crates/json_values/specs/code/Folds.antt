@@ -3,7 +3,9 @@ use Rattle.std.specs.Prelude.{◌≡◌, ◌≤◌, List, [], ◌∷◌, ◌++�
 use Rattle.ascii.specs.Ascii.{Bytes}
 use Rattle.json_text.specs.Reader.{Read, got, bad, Reader}
 use Rattle.json_text.specs.code.Places.{read_at, place_of}
-use Rattle.json_values.specs.Json.{Json, listed}
+use Rattle.json_values.specs.Json.{listed}
+use Rattle.json_values.specs.code.Kinds.{Item}
+use Rattle.json_values.specs.declared.Kind.{Kind}
 
 -- ---- the code's answers as readings
 
@@ -33,15 +35,6 @@ pub data Folded {A B : Type 0} (post : ℕ → B → Option (ℕ × B) → Type 
   one_behind : {done : List A} {a : A} {i j : ℕ} {y z : B} → Folded post p s x done y → read_at p s i ≡ got a j → post i y (Some (j, z)) → Folded post p s x (done ++ a ∷ []) z
 
 -- ---- the whole list
-
--- what is listed: the values of an array, or the members of an object
-pub data Kind : Type 0 where
-  values : Kind
-  members : Kind
-
-abbrev pub Item : Kind → Type 0
-Item values = Json
-Item members = Bytes × Json
 
 -- r is what is held of a list of such items, and the place behind it
 pub record FoldsListed {B : Type 0} (post : ℕ → B → Option (ℕ × B) → Type 0) (s : Bytes) (from close : ℕ) (x : B) (r : Option (ℕ × B)) : Type 0 where

@@ -4,8 +4,11 @@ use Rattle.label_lookup.proofs.find_owner.Goals as goal
 pub returns-in_err-found : goal.returns-in_err-found
 returns-in_err-found c = search owner_laws
 
-pub returns-in-Some : goal.returns-in-Some
-returns-in-Some c = search owner_laws
+pub returns-in_default : goal.returns-in_default
+returns-in_default c = search owner_laws
+
+pub returns-in-Some-deeper : goal.returns-in-Some-deeper
+returns-in-Some-deeper c = search owner_laws
 
 pub returns : goal.returns
 returns c = search owner_laws

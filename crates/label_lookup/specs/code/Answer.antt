@@ -3,8 +3,9 @@ use Rattle.std.specs.Prelude.{◌≡◌, List, false, ℕ, max, Option, None, So
 use Rattle.ascii.specs.Ascii.{Bytes, is_none, filter_by}
 use Rattle.hosts.specs.Host.{labels}
 use Rattle.suffix.specs.Suffix.{Rule, read_table, matches, private_label}
-use Rattle.suffix.specs.code.Pass.{sizes, best_of, LabelAt}
-use Rattle.suffix.specs.code.Depth.{deepest, deeper_than}
+use Rattle.suffix.specs.code.Pass.{sizes, best_of}
+use Rattle.suffix.specs.code.Deeper.{is_deeper}
+use Rattle.suffix.specs.code.Depth.{deepest}
 use Rattle.suffix.specs.declared.Sizes.{Sizes}
 use Rattle.label_lookup.specs.declared.Depths.{Depths}
 use Rattle.label_lookup.specs.declared.Lookup.{Lookup}
@@ -22,13 +23,14 @@ unfoldable pub deepened : ℕ → Option Depths → Option Depths
 deepened d None = None
 deepened d (Some f) = Some (depths f.sizes (max d f.depth))
 
--- where the label begins, whether a rule goes deeper, and what the table finds for the host then
+-- the label, whether a rule goes deeper, and what the table finds for the host then
 pub record LabelFound (table host : Bytes) (l : Lookup) : Type 0 where
-  pub place : LabelAt table host l.start
-  pub deeper_is : is_some l.deeper ≡ deeper_than table (private_label table host)
+  pub label_is : private_label table host ≡ Some l.label.now
+  pub deeper_is : is_some l.deeper ≡ is_deeper table l.label.now
   pub found : (z : Sizes) → l.deeper ≡ Some z → Some z ≡ best_of (labels host) (read_table table)
 
--- none where the table is bad
-pub data LookupIs (table host : Bytes) : Option Lookup → Type 0 where
+-- none where the table is bad; none within, where the host has no private label
+pub data LookupIs (table host : Bytes) : Option (Option Lookup) → Type 0 where
   unread : read_table table ≡ None → LookupIs table host None
-  looked_up : {l : Lookup} → is_none (read_table table) ≡ false → LabelFound table host l → LookupIs table host (Some l)
+  unlabelled : is_none (read_table table) ≡ false → private_label table host ≡ None → LookupIs table host (Some None)
+  looked_up : {l : Lookup} → is_none (read_table table) ≡ false → LabelFound table host l → LookupIs table host (Some (Some l))

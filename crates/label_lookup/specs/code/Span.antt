@@ -4,9 +4,8 @@ use Prim.Native.Char.{code}
 use Rattle.ascii.specs.Ascii.{Bytes, is_none, split_at}
 use Rattle.hosts.specs.Host.{labels}
 use Rattle.suffix.specs.Suffix.{read_lines, read_table, private_label}
-use Rattle.suffix.specs.code.Pass.{best_of, LabelAt}
-use Rattle.suffix.specs.code.Deeper.{deeper_in}
-use Rattle.suffix.specs.code.Depth.{deeper_than}
+use Rattle.suffix.specs.code.Pass.{best_of}
+use Rattle.suffix.specs.code.Deeper.{deeper_in, is_deeper}
 use Rattle.label_lookup.specs.declared.Deeper.{Deeper}
 use Rattle.label_lookup.specs.declared.Owner.{Owner}
 
@@ -26,13 +25,18 @@ pub record Held (table host label : Bytes) (d : Deeper) : Type 0 where
   pub found : best_of (labels host) (read_table table) ≡ Some d.sizes
   pub spans : Spans table label d.span.from d.span.to
 
--- where the label begins, whether a rule goes deeper, and what is held then
+-- the label of a host that has one, whether a rule goes deeper, and what is held then
 pub record OwnerFound (table host : Bytes) (o : Owner) : Type 0 where
-  pub place : LabelAt table host o.start
-  pub present_is : is_some o.deeper ≡ deeper_than table (private_label table host)
-  pub held : (d : Deeper) → o.deeper ≡ Some d → Held table host (drop o.start host) d
+  pub label_is : private_label table host ≡ Some o.label.now
+  pub present_is : is_some o.deeper ≡ is_deeper table o.label.now
+  pub held : (d : Deeper) → o.deeper ≡ Some d → Held table host o.label.now d
+
+-- none where the host has no private label
+pub data Owns (table host : Bytes) : Option Owner → Type 0 where
+  no_label : private_label table host ≡ None → Owns table host None
+  has_label : {o : Owner} → OwnerFound table host o → Owns table host (Some o)
 
 -- none where the table is bad
-pub data OwnerIs (table host : Bytes) : Option Owner → Type 0 where
+pub data OwnerIs (table host : Bytes) : Option (Option Owner) → Type 0 where
   bad_table : read_table table ≡ None → OwnerIs table host None
-  owner_is : {o : Owner} → is_none (read_table table) ≡ false → OwnerFound table host o → OwnerIs table host (Some o)
+  owner_is : {o : Option Owner} → is_none (read_table table) ≡ false → Owns table host o → OwnerIs table host (Some o)

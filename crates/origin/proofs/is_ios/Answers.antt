@@ -1,5 +1,3 @@
-use borrow.Author.Rules.{rules}
-use Rattle.origin.specs.Origin.{is_host_byte}
 use Rattle.origin.proofs.Laws.{laws}
 use Rattle.origin.proofs.is_ios.Goals as goal
 
@@ -10,7 +8,7 @@ pub returns-then-s-gt269 : goal.returns-then-s-gt269
 returns-then-s-gt269 c = search laws
 
 pub returns-then-begins_with : goal.returns-then-begins_with
-returns-then-begins_with c = search (c.run_end.ensures.is is_host_byte (λ b q h e. search rules), laws)
+returns-then-begins_with c = search laws
 
 pub returns-else-begins_with : goal.returns-else-begins_with
 returns-else-begins_with c = search laws

@@ -2,8 +2,8 @@ use Rattle.origin.specs.Origin.{is_tail_byte}
 use Rattle.origin.proofs.Laws.{laws}
 use Rattle.origin.proofs.is_tail.Goals as goal
 
-pub returns-then-t-eq0 : goal.returns-then-t-eq0
-returns-then-t-eq0 c = search laws
+pub returns-then-is_empty : goal.returns-then-is_empty
+returns-then-is_empty c = search laws
 
 pub returns-then-begins_tail : goal.returns-then-begins_tail
 returns-then-begins_tail c = search (c.run_end.ensures.is is_tail_byte (λ b q h e. e), laws)

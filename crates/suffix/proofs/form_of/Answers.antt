@@ -1,8 +1,8 @@
 use Rattle.suffix.proofs.FormLaws.{form_laws}
 use Rattle.suffix.proofs.form_of.Goals as goal
 
-pub returns-then-w-eq0 : goal.returns-then-w-eq0
-returns-then-w-eq0 c = search form_laws
+pub returns-then-is_empty : goal.returns-then-is_empty
+returns-then-is_empty c = search form_laws
 
 pub returns-then-w-gt47 : goal.returns-then-w-gt47
 returns-then-w-gt47 c = search form_laws

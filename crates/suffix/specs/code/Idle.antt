@@ -1,7 +1,8 @@
 -- Lines of the table that find nothing for a host, as one loop over their bytes passes over them.
-use Rattle.std.specs.Prelude.{◌≡◌, Bool, true, ◌&&◌, ◌||◌, ℕ, suc, ◌+◌, ◌-◌, ◌*◌, ◌≤◌, ◌<◌, length, take, drop, get_or, eqb, leb, if◌then◌else◌, Option, None, Some}
+use Rattle.std.specs.Prelude.{◌≡◌, Bool, true, false, ◌&&◌, ◌||◌, ℕ, suc, ◌+◌, ◌-◌, ◌*◌, ◌≤◌, ◌<◌, length, take, drop, get_or, slice_get, eqb, leb, ltb, if◌then◌else◌, Option, None, Some}
 use Prim.Native.Char.{code}
-use Rattle.ascii.specs.Ascii.{Bytes, take_while, last_of, split_at, is_digit, is_letter, lower_byte}
+use Rattle.ascii.specs.Class.{Classifies}
+use Rattle.ascii.specs.Ascii.{Bytes, take_while, last_of, split_at, is_digit, is_letter, lower_byte, begins_with, text}
 use Rattle.hosts.specs.Host.{labels, is_host}
 use Rattle.hosts.specs.code.Place.{Stands}
 use Rattle.suffix.specs.Suffix.{read_lines}
@@ -24,13 +25,24 @@ pub record Skipped (table : Bytes) (from to : ℕ) : Type 0 where
   pub inside : to ≤ length table + 1
   pub is : (host : Bytes) → Idle host table from to
 
--- where the line behind the one at a place begins, which finds nothing; none where it is another line, or there is none
-pub data SkippedLine (table : Bytes) (at : ℕ) : Option ℕ → Type 0 where
-  no_line : SkippedLine table at None
-  one_line : {next : ℕ} → at < length table → at < next → Skipped table at next → SkippedLine table at (Some next)
+-- an empty line, of no byte before its LF, or a comment
+unfoldable pub begins_skipped : Bytes → Bool
+begins_skipped s = begins_with (text "\n") s || begins_with (text "//") s
 
-unfoldable pub last_byte : Bytes → ℕ
-last_byte s = get_or s (length s - 1) 0
+-- where the line behind the one at a place begins, which finds nothing; none exactly where neither an empty line nor a comment begins
+-- there, as behind the end
+pub data SkippedLine (table : Bytes) (at : ℕ) : Option ℕ → Type 0 where
+  no_line : begins_skipped (drop at table) ≡ false → SkippedLine table at None
+  one_line : {next : ℕ} → begins_skipped (drop at table) ≡ true → at < length table → at < next → Skipped table at next → SkippedLine table at (Some next)
+
+-- none where there is no byte
+unfoldable pub last_byte : Bytes → Option ℕ
+last_byte s = slice_get s (length s - 1)
+
+-- b is alike to the last byte that there is
+unfoldable pub is_like : Option ℕ → ℕ → Bool
+is_like None b = false
+is_like (Some last) b = eqb (lower_byte b) (lower_byte last)
 
 unfoldable pub is_alphanumeric : ℕ → Bool
 is_alphanumeric b = is_letter b || is_digit b
@@ -38,9 +50,9 @@ is_alphanumeric b = is_letter b || is_digit b
 -- 0 a letter or digit, 1 one alike to `last`, 6 the hyphen, 7 the dot, 8 LF, 9 the rest. With these numbers b may stand behind a
 -- in a line that is a host not alike to `last` in its last byte exactly where kind_of a + 3 * kind_of b is at most 24, where a is LF
 -- at a line's start.
-unfoldable pub kind_of : ℕ → ℕ → ℕ
+unfoldable pub kind_of : Option ℕ → ℕ → ℕ
 kind_of last b =
-    if is_alphanumeric b then (if eqb (lower_byte b) (lower_byte last) then 1 else 0) else
+    if is_alphanumeric b then (if is_like last b then 1 else 0) else
     if eqb b (code "-") then 6 else
     if eqb b (code ".") then 7 else
     if eqb b (code "\n") then 8 else
@@ -49,6 +61,17 @@ kind_of last b =
 -- a table of the kinds for a host
 pub record KindsOf (host kinds : Bytes) : Type 0 where
   pub is : (b : ℕ) → b < 256 → get_or kinds b 0 ≡ kind_of (last_byte host) b
+
+-- the kind that a table gives to b, 9 where b is no byte
+unfoldable pub kind_in : Bytes → ℕ → ℕ
+kind_in kinds b = if ltb b 256 then get_or kinds b 0 else 9
+
+-- a byte's kind, and the table of the kinds, where the class table that is lent gives each byte its class
+pub record KindBy (classes : Bytes) (last : Option ℕ) (b r : ℕ) : Type 0 where
+  pub is : Classifies classes → r ≡ kind_of last b
+
+pub record KindsBy (classes host r : Bytes) : Type 0 where
+  pub is : Classifies classes → KindsOf host r
 
 -- a byte of the kind k behind one of the kind p, in a line that begins at start: where the next byte's line begins, and k
 unfoldable pub step_of : ℕ → ℕ → ℕ → ℕ → Option (ℕ × ℕ)
@@ -71,6 +94,22 @@ pub data Stopped (host table : Bytes) (from : ℕ) : Stop → Type 0 where
   at_host : {start to : ℕ} → Idle host table from start → HostLine table start to → Stopped host table from (Host start to)
   at_other : {start : ℕ} → Idle host table from start → start ≤ length table → Stopped host table from (Other start)
 
+-- where the line begins at which the pass stopped, and where it ends if it is a host
+unfoldable pub start_of : Stop → ℕ
+start_of (Host start to) = start
+start_of (Other start) = start
+
+unfoldable pub end_of : Stop → ℕ
+end_of (Host start to) = to
+end_of (Other start) = start
+
+-- Stopped, where the table of kinds that is lent is the host's; the places are in order by any table
+pub record StoppedBy (kinds host table : Bytes) (from : ℕ) (r : Stop) : Type 0 where
+  pub begun : from ≤ start_of r
+  pub onward : start_of r ≤ end_of r
+  pub inside : end_of r ≤ length table
+  pub is : KindsOf host kinds → Stopped host table from r
+
 -- what the pass over such lines is lent: the depth d that is known and where the labels begin that are one more, and a place of a
 -- table that is not too long
 pub record Passes (host table : Bytes) (d start from : ℕ) : Type 0 where
@@ -86,7 +125,12 @@ pub record Shallow (host table : Bytes) (m d from to : ℕ) : Type 0 where
   -- which lines these are
   pub passed : Passed host table d from to
 
--- the same where the pass is lent what it needs
-pub record ShallowBy (host table : Bytes) (m d last from to : ℕ) : Type 0 where
+-- the same where the pass is lent what it needs; the places are in order in any case
+pub record Shallows (host table : Bytes) (m d last from to : ℕ) : Type 0 where
   pub onward : from ≤ to
   pub is : Passes host table d last from → Shallow host table m d from to
+
+-- and where the table of kinds that is lent is the host's
+pub record ShallowBy (kinds host table : Bytes) (m d last from to : ℕ) : Type 0 where
+  pub onward : from ≤ to
+  pub is : KindsOf host kinds → Passes host table d last from → Shallow host table m d from to

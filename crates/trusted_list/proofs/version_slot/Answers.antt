@@ -7,11 +7,11 @@ returns-in_default c = search slots
 pub returns-in_default-second : goal.returns-in_default-second
 returns-in_default-second c = search slots
 
-pub returns-then-m-wanted : goal.returns-then-m-wanted
-returns-then-m-wanted c = search slots
+pub returns-then-m-from : goal.returns-then-m-from
+returns-then-m-from c = search slots
 
-pub returns-then-n-wanted : goal.returns-then-n-wanted
-returns-then-n-wanted c = search slots
+pub returns-then-n-from : goal.returns-then-n-from
+returns-then-n-from c = search slots
 
 pub returns : goal.returns
 returns c = search slots

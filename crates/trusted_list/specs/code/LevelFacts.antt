@@ -6,7 +6,7 @@ use Rattle.json_values.specs.Json.{Json, to_items, to_members}
 use Rattle.trusted_list.specs.TrustedList.{values_of, read_version, read_ids, read_listing, listings, read_listings, read_list, select}
 use Rattle.trusted_list.specs.code.Levels.{start, ElseSpoiled}
 use Rattle.trusted_list.specs.code.Slots.{Came, never, Name, Names, version_slot, VersionIs, IdsIs, no_ids, strings_slot, Strings, ListingIs, no_listing, misshapen, nothing, Listings, ListIs, BodyIs, list_is}
-use Rattle.trusted_list.specs.declared.Kind.TheVariants.{Array, Object}
+use Rattle.json_values.specs.declared.Kind.TheVariants.{Array, Object}
 use Rattle.trusted_list.specs.declared.Slot.{Slot}
 use Rattle.trusted_list.specs.declared.Slot.TheVariants.{Absent, Spoiled}
 

@@ -4,26 +4,15 @@ use Rattle.ascii.specs.Ascii.{Bytes}
 use Rattle.json_text.specs.Reader.{got, Reader}
 use Rattle.json_text.specs.code.Places.{read_at}
 use Rattle.json_values.specs.Json.{Json, array, object, to_items, to_members, read_member, read_value}
+use Rattle.json_values.specs.code.Kinds.{Item}
 use Rattle.trusted_list.specs.TrustedList.{as_object, as_array}
-use Rattle.trusted_list.specs.declared.Kind.{Kind}
-use Rattle.trusted_list.specs.declared.Kind.TheVariants.{Array, Object}
+use Rattle.json_values.specs.declared.Kind.{Kind}
+use Rattle.json_values.specs.declared.Kind.TheVariants.{Array, Object}
 use Rattle.trusted_list.specs.declared.Slot.{Slot}
 use Rattle.trusted_list.specs.declared.Slot.TheVariants.{Absent, Other, Spoiled}
 use Rattle.trusted_list.specs.declared.Two.{Two}
 
 -- ---- an array or an object
-
-abbrev pub Item : Kind → Type 0
-Item Array = Json
-Item Object = Bytes × Json
-
-unfoldable pub opening : Kind → ℕ
-opening Array = 91
-opening Object = 123
-
-unfoldable pub closing : Kind → ℕ
-closing Array = 93
-closing Object = 125
 
 -- what is held before the first element
 unfoldable pub start : Kind → Two

@@ -1,14 +1,17 @@
-use Rattle.byte_search.proofs.RangeLaws.{range_laws, here_laws}
+use Rattle.byte_search.proofs.RangeLaws.{blocks_laws, block_at}
 use Rattle.byte_search.proofs.ByteRange.first_in.Goals as goal
 
-pub returns-then-n-lt64 : goal.returns-then-n-lt64
-returns-then-n-lt64 c = search here_laws
-
-pub loop-i-preserved : goal.loop-i-preserved
-loop-i-preserved c = search range_laws
+pub returns-then-s-from : goal.returns-then-s-from
+returns-then-s-from c = search blocks_laws
 
 pub returns-then-not-is_outside : goal.returns-then-not-is_outside
-returns-then-not-is_outside c = search range_laws
+returns-then-not-is_outside c = search (block_at c.loop-block.invariant c.in-Some.ensures.steps, blocks_laws)
 
-pub returns : goal.returns
-returns c = search range_laws
+pub overflow_add-result : goal.overflow_add-result
+overflow_add-result c = search (block_at c.loop-block.invariant c.in-Some.ensures.steps, blocks_laws)
+
+pub returns-in-Some-first_in_block : goal.returns-in-Some-first_in_block
+returns-in-Some-first_in_block c = search (block_at c.loop-block.invariant c.in-Some.ensures.steps, blocks_laws)
+
+pub loop-block-preserved : goal.loop-block-preserved
+loop-block-preserved c = search (block_at c.loop-block.invariant c.in-Some.ensures.steps, blocks_laws)

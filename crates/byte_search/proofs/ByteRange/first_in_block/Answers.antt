@@ -7,5 +7,8 @@ loop-k-init c = search block_laws
 pub loop-k-preserved : goal.loop-k-preserved
 loop-k-preserved c = search block_laws
 
-pub returns : goal.returns
-returns c = search block_laws
+pub returns-then-r-lt64 : goal.returns-then-r-lt64
+returns-then-r-lt64 c = search block_laws
+
+pub returns-else-r-lt64 : goal.returns-else-r-lt64
+returns-else-r-lt64 c = search block_laws

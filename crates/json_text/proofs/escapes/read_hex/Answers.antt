@@ -26,4 +26,4 @@ pub overflow_add-result-4 : goal.overflow_add-result-4
 overflow_add-result-4 c = search escape_laws
 
 pub returns : goal.returns
-returns c = search escape_laws
+returns c = rw (c.from.ensures, c.from-2.ensures, c.from-3.ensures, c.from-4.ensures) (search escape_laws)

@@ -1,17 +1,17 @@
-use Rattle.label_lookup.proofs.SpanLaws.{seek_laws}
+use Rattle.label_lookup.proofs.SpanLaws.{seek_laws, seek_turns}
 use Rattle.label_lookup.proofs.spans.next_deeper.Goals as goal
 
-pub loop-at-init : goal.loop-at-init
-loop-at-init c = search seek_laws
-
-pub slice_bounds-line-end : goal.slice_bounds-line-end
-slice_bounds-line-end c = search seek_laws
+pub loop-found-init : goal.loop-found-init
+loop-found-init c = search seek_laws
 
 pub invariant_of-line : goal.invariant_of-line
 invariant_of-line c = search seek_laws
 
-pub overflow_add-next : goal.overflow_add-next
-overflow_add-next c = search seek_laws
+pub returns-then-form_deeper : goal.returns-then-form_deeper
+returns-then-form_deeper c = search seek_turns
 
-pub loop-at-preserved : goal.loop-at-preserved
-loop-at-preserved c = search seek_laws
+pub loop-found-preserved : goal.loop-found-preserved
+loop-found-preserved c = search seek_turns
+
+pub returns : goal.returns
+returns c = search seek_turns

@@ -1,5 +1,4 @@
-use Rattle.entries.proofs.Laws.{reading}
 use Rattle.entries.proofs.selected.Selected.read.Goals as goal
 
 pub returns : goal.returns
-returns c = search reading
+returns c = c.read_entry.ensures.is c.args.self.now.appid.now c.args.self.now.owned

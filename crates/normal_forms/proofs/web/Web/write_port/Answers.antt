@@ -1,8 +1,0 @@
-use Rattle.normal_forms.proofs.Writings.{write_laws}
-use Rattle.normal_forms.proofs.web.Web.write_port.Goals as goal
-
-pub returns-then-is_hidden : goal.returns-then-is_hidden
-returns-then-is_hidden c = search write_laws
-
-pub returns : goal.returns
-returns c = search write_laws
