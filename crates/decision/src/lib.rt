@@ -185,7 +185,8 @@ pub fn locate(caller: &[u8], appid: &[u8], fetched: FetchRecord) -> Option<Locat
     }
 }
 
-// The same as a part of the lent AppID or text, letters as given; empty for none.
+// The same as a part of the lent AppID or text, letters as given; empty for none, which document 01's part of a lent slice is, so no
+// Option: `locate` answers one.
 pub fn fetch_location<'a>(caller: &[u8], appid: &'a [u8], fetched: FetchRecord<'_, 'a>) -> &'a [u8]
     ensures { result.now ≡ fetch_location caller.now appid.now fetched.entry.items.now fetched.entry.text.now }
 {

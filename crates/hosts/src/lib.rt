@@ -58,6 +58,7 @@ pub fn is_host(s: &[u8]) -> bool
 pub fn is_host_by(classes: &[u8; 256], s: &[u8]) -> bool
     ensures { HostBy classes.now s.now result }
 {
+    // 1 to 253, both told by the length
     if s.len() < 1 {
         return false;
     }

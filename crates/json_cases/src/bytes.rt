@@ -37,25 +37,24 @@ fn is_tail(b: u8) -> bool {
 
 pub fn all_raw() -> Tally {
     let mut t = Tally::none();
-    for b in 0u16..256 {
-        t = t.tell(is_string(&[b as u8]) == is_plain(b as u8));
+    for b in 0u8..=255 {
+        t = t.tell(is_string(&[b]) == is_plain(b));
     }
     t
 }
 
 pub fn all_escaped() -> Tally {
     let mut t = Tally::none();
-    for b in 0u16..256 {
-        t = t.tell(is_string(&[b'\\', b as u8]) == is_short_escape(b as u8));
+    for b in 0u8..=255 {
+        t = t.tell(is_string(&[b'\\', b]) == is_short_escape(b));
     }
     t
 }
 
 pub fn all_pairs() -> Tally {
     let mut t = Tally::none();
-    for n in 0u32..65536 {
-        let a = (n / 256) as u8;
-        let b = (n % 256) as u8;
+    for n in 0u16..=65535 {
+        let [a, b] = n.to_be_bytes();
         t = t.tell(is_string(&[a, b]) == is_pair(a, b));
     }
     t

@@ -18,9 +18,9 @@ fn alone(n: u16, upper: bool) -> bool {
 
 pub fn all_alone() -> Tally {
     let mut t = Tally::none();
-    for n in 0u32..65536 {
-        t = t.tell(alone(n as u16, false));
-        t = t.tell(alone(n as u16, true));
+    for n in 0u16..=65535 {
+        t = t.tell(alone(n, false));
+        t = t.tell(alone(n, true));
     }
     t
 }

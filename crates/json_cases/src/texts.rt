@@ -13,7 +13,7 @@ const DIGITS: [u8; 16] = *b"0123456789abcdef";
 
 // The last hexadecimal digit of n; letters in lower case, or in upper.
 fn digit(n: u16, upper: bool) -> u8 {
-    let lower = DIGITS[(n % 16) as usize];
+    let lower = DIGITS[usize::from(n % 16)];
     if upper {
         return lower.to_ascii_uppercase();
     }

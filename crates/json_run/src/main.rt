@@ -11,7 +11,7 @@ use std::io::Read;
 const DIGITS: [u8; 16] = *b"0123456789abcdef";
 
 fn put_byte(line: &mut Writer, b: u8) {
-    line.write(&[DIGITS[(b / 16) as usize], DIGITS[(b % 16) as usize]]);
+    line.write(&[DIGITS[usize::from(b / 16)], DIGITS[usize::from(b % 16)]]);
 }
 
 fn put_hex(line: &mut Writer, bytes: &[u8]) {
@@ -61,7 +61,7 @@ fn one(rt: &impl Print, reader: &mut impl Read) -> io::Result<bool> {
     if read_full(reader, &mut length)? < 2 {
         return Ok(false);
     }
-    let n = u16::from_be_bytes(length) as usize;
+    let n = usize::from(u16::from_be_bytes(length));
     let mut space = [0u8; 4096];
     let Some(text) = space.get_mut(..n) else {
         return Ok(false);

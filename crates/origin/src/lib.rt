@@ -51,7 +51,8 @@ fn port_number(p: &[u8]) -> Option<u16>
     ascii::decimals::read_number(p)
 }
 
-// Behind the host: `:` and a port, or no port.
+// Behind the host: `:` and a port, or no port. That a host ends at a place is asked here, of the calls behind it and in `matching`, which
+// says why it is no type.
 fn read_port(s: &[u8], end: usize) -> Option<Parts>
     requires { HostEnd s.now end }
     ensures { Reads s.now (read_port (part s.now 8 end) (drop end s.now)) result }

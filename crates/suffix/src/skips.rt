@@ -1,4 +1,5 @@
-// The ends of lines; and lines of the table that find nothing for a host, passed over. Its loops go on from where a search stopped:
+// The ends of lines; and lines of the table that find nothing for a host, passed over. Its loops, but for
+// `plain_lines`, go on from where a search stopped:
 // `split` goes byte for byte, and takes 300 microseconds for the lines of the published table alone (in Rust), the whole pass 190.
 // A table and a place in it are two arguments: a struct of both would be made anew at each step.
 ghost use Rattle.std.specs.Prelude.{◌≡◌, ◌&&◌, ◌||◌, not, ◌+◌, ◌≤◌, ◌<◌, length, get_or, drop, eqb, ltb, if◌then◌else◌};
