@@ -152,7 +152,7 @@ pub fn ends_at_label(h: &[u8], w: &[u8]) -> bool
     }
     let k = h.len() - w.len();
     if is_boundary(h, k) {
-        ascii::equal_no_case(&h[k..], w)
+        ascii::equal_no_case_from_end(&h[k..], w)
     } else {
         false
     }

@@ -49,7 +49,7 @@ impl Decoded {
         let n = s.len();
         if n <= 512 {
             self.len = Some(n);
-            self.bytes[0..n].copy_from_slice(s);
+            ascii::overwrite(&mut self.bytes[0..n], s);
         }
     }
 

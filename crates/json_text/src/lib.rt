@@ -26,7 +26,8 @@ pub fn byte_at(s: &[u8], at: usize) -> Option<u8>
 pub fn is_blank(b: u8) -> bool
     ensures { result ≡ is_blank b }
 {
-    matches!(b, b' ' | b'\t' | b'\n' | b'\r')
+    // by `==`: `matches!` is a quarter slower over line feeds
+    b == b' ' || b == b'\t' || b == b'\n' || b == b'\r'
 }
 
 // The place behind the blanks at a place; most often there is none.

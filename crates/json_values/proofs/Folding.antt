@@ -49,11 +49,11 @@ mapped_got f a j = refl
 module _ {A B : Type 0} (post : ℕ → B → Option (ℕ × B) → Type 0) (p : Reader A) (close : ℕ) (s : Bytes) (from : ℕ) (x : B) {i : ℕ} {b : Option ℕ} {w : Bool}
     (e : read_at ws s from ≡ got tt i) (g : Peeked s i b) (t : w ≡ option_eq eqb b (Some close)) where
   -- the list is empty
-  loop_empty : w ≡ true → Relates (Folded post p s x) (read_at (listed p (close ∷ [])) s from) (reading (Some (i + 1, x)))
+  pub loop_empty : w ≡ true → Relates (Folded post p s x) (read_at (listed p (close ∷ [])) s from) (reading (Some (i + 1, x)))
   unfolding listed
   loop_empty h = is_read (record { value = []; read = rw (on _ _ _ _ e, next_yes g _ _ _ (is_this b close t h), on _ _ _ _ (one_yes g _ (is_this b close t h)), give_at); is = before_all })
 
-  loop_starts : close < 256 → w ≡ false → Loop post p close s (read_at (listed p (close ∷ [])) s from) x x i
+  pub loop_starts : close < 256 → w ≡ false → Loop post p close s (read_at (listed p (close ∷ [])) s from) x x i
   unfolding listed
   loop_starts c h = record {
     fuel = length (drop i s);
@@ -66,7 +66,7 @@ module _ {A B : Type 0} (post : ℕ → B → Option (ℕ × B) → Type 0) (p :
 module _ {A B : Type 0} {post : ℕ → B → Option (ℕ × B) → Type 0} {p : Reader A} {close : ℕ} {s : Bytes} {whole : Read (List A)} {start x : B} {at : ℕ}
     (L : Loop post p close s whole start x at) (S : Ends post p s) {q : Option (ℕ × B)} (e : post at x q) where
   -- the item is wrong
-  turn_bad : q ≡ None → Relates (Folded post p s start) whole (reading None)
+  pub turn_bad : q ≡ None → Relates (Folded post p s start) whole (reading None)
   unfolding items reading place_of
   turn_bad h =
       let m : read_at p s at ≡ bad = missed _ (S.is at x q e) (rw h) in
@@ -99,28 +99,28 @@ module _ {A B : Type 0} {post : ℕ → B → Option (ℕ × B) → Type 0} {p :
         rw (on _ _ _ _ item.1, on _ _ _ _ f, map_give Behind (λ others. item.0 ∷ others) s k) in
         sym (mapped_cons L.done item.0 (read_at Behind s k)) ∙ ap (mapped (λ rest. L.done ++ rest)) (sym z) ∙ L.is
 
-    turn_end : w ≡ true → Relates (Folded post p s start) whole (reading (Some (k + 1, y)))
+    pub turn_end : w ≡ true → Relates (Folded post p s start) whole (reading (Some (k + 1, y)))
     turn_end c =
         let z : read_at Behind s k ≡ got [] (k + 1) = rw (next_yes g _ _ _ (is_this b close t c), on _ _ _ _ (one_yes g _ (is_this b close t c)), give_at) in
         let v : whole ≡ got (now ++ []) (k + 1) = sym to_tail ∙ rw z (mapped_got (λ rest. now ++ rest) [] (k + 1)) in
         is_read (record { value = now; read = v ∙ ap (λ (l : List A). got l (k + 1)) (append-nil now); is = held_now })
 
     module _ {v : Bool} (u : v ≡ not (option_eq eqb b (Some 44))) where
-      turn_other : close < 256 → w ≡ false → v ≡ true → Relates (Folded post p s start) whole (reading None)
+      pub turn_other : close < 256 → w ≡ false → v ≡ true → Relates (Folded post p s start) whole (reading None)
       turn_other l c d =
           let z : read_at Behind s k ≡ bad = rw (next_no g _ _ _ (not_this b close l t c), then_bad _ _ _ _ (one_no g _ (isnt_this b 44 (omega arith) u d))) in
           no_read (sym to_tail ∙ rw z (mapped_bad (λ rest. now ++ rest)))
 
       -- a comma, and the blanks behind it end at i
       module _ {i : ℕ} (d : v ≡ false) (n : read_at ws s (k + 1) ≡ got tt i) where
-        turn_less : length s - i < length s - at
+        pub turn_less : length s - i < length s - at
         turn_less =
             let x : at ≤ j = no_fall p s at item.1 in
             let y : j ≤ k = no_fall ws s j f in
             let z : k + 1 ≤ i = no_fall ws s (k + 1) n in
             omega (arith, in_text s k (here g (told_not b 44 u d)))
 
-        turn_more : close < 256 → w ≡ false → Loop post p close s whole start y i
+        pub turn_more : close < 256 → w ≡ false → Loop post p close s whole start y i
         turn_more l c =
             let m : L.fuel ≡ suc (L.fuel - 1) = omega (arith, turn_less, L.enough) in
             let z : read_at Behind s k ≡ read_at (items p (close ∷ []) L.fuel) s i =

@@ -8,6 +8,7 @@ use native.Mathlib.Omega.{arith}
 use lib.ListN.{length, take, drop, drop_of_length-le}
 use borrow.Author.Tests.{lt-leb}
 use Rattle.ascii.specs.Ascii.{Bytes, filter_by, take_while, last_of, split_at}
+use Rattle.ascii.specs.declared.Span.{Span}
 use Rattle.ascii.proofs.Scan.{scan_to, scan_from, scan_part}
 use Rattle.hosts.specs.Host.{labels}
 use Rattle.hosts.specs.code.Place.{Stands}
@@ -22,7 +23,6 @@ use Rattle.suffix.proofs.Passes.{join_join, pass_fits, lines_on, next_line, Pass
 use Rattle.label_lookup.specs.code.Answer.{depths, depths_of, deepened}
 use Rattle.label_lookup.specs.code.Finds.{FindsLine}
 use Rattle.label_lookup.specs.code.Search.{Behind, NextLine, no_line, one_line}
-use Rattle.label_lookup.specs.declared.Candidate.{Candidate}
 use Rattle.label_lookup.specs.declared.Depths.{Depths}
 use Rattle.label_lookup.proofs.FindLaws.{told_good, told_bad}
 use mir.Syntax.{w64}
@@ -152,60 +152,67 @@ twice c d n w p = omega (arith, w, p)
 
 -- ---- the next line
 
-module _ {host table : Bytes} {m d last at from : ℕ} (l : length table ≤ 1048576) (I : Shallows host table m d last at from) where
+module _ {host table : Bytes} {m d last at from : ℕ} (I : Shallows host table m d last at from) where
   pub next_none : length table ≤ from → NextLine host table m d last at None
   next_none h = no_line h I
 
-  module _ {to : ℕ} (h : from < length table) (g : to ≡ from + length (take_while in_content (drop from table))) {k : ℕ} (i : k ≡ to + length (take_while in_line (drop to table))) where
-    pub next_fits : Fits w64 (k + 1)
-    next_fits = pass_fits table i g h l
+  pub next_some : {to : ℕ} → from < length table → to ≡ from + length (take_while in_content (drop from table)) → NextLine host table m d last at (Some (record { from = from; to = to }))
+  next_some h g = one_line (record { passed = I; inside = h; part_is = g })
 
-    pub next_some : NextLine host table m d last at (Some (record { part = record { from = from; to = to }; next = k + 1 }))
-    next_some = one_line (record { passed = I; inside = h; part_is = g; ends = k; ends_is = i; next_is = refl })
-
-pub its_line : {host table : Bytes} {m d last at : ℕ} {q : Option Candidate} {x : Candidate} → NextLine host table m d last at q → q ≡ Some x → Behind host table m d last at x
+pub its_line : {host table : Bytes} {m d last at : ℕ} {q : Option Span} {x : Span} → NextLine host table m d last at q → q ≡ Some x → Behind host table m d last at x
 its_line (no_line h I) e = let z : ◌≡◌ {A = ℕ} 0 1 = cc in absurd (omega arith)
-its_line {x} (one_line {c = y} B) e = let z : y ≡ x = cc in rw z at B
+its_line {x} (one_line {part = y} B) e = let z : y ≡ x = cc in rw z at B
 
--- where the next line is looked for
-module _ {host table : Bytes} {m d last at : ℕ} {x : Candidate} (B : Behind host table m d last at x) where
-  part_end : x.part.to ≤ length table
-  part_end = scan_to in_content table x.part.from x.part.to B.part_is (omega (arith, B.inside))
+-- where the line ends, behind which the next line is looked for
+module _ {host table : Bytes} {m d last at : ℕ} {x : Span} (B : Behind host table m d last at x) {k : ℕ} (E : k ≡ x.to + length (take_while in_line (drop x.to table))) where
+  pub line_fits : length table ≤ 1048576 → Fits w64 (k + 1)
+  line_fits h = pass_fits table E B.part_is B.inside h
 
-  pub next_inside : x.next ≤ length table + 1
-  next_inside = omega (arith, B.next_is, scan_to in_line table x.part.to B.ends B.ends_is part_end)
+  part_end : x.to ≤ length table
+  part_end = scan_to in_content table x.from x.to B.part_is (omega (arith, B.inside))
 
-  pub next_smaller : length table + 1 - x.next < length table + 1 - at
-  next_smaller = omega (arith, next_inside, B.next_is, B.passed.onward, scan_from in_content table x.part.from x.part.to B.part_is, scan_from in_line table x.part.to B.ends B.ends_is)
+  pub next_inside : k + 1 ≤ length table + 1
+  next_inside = omega (arith, scan_to in_line table x.to k E part_end)
 
-module _ {host table : Bytes} {s : Sizes} {c start at : ℕ} (R : Round host table s c start at) {q : Option Candidate} (C : NextLine host table s.most c start at q) where
+  pub next_onward : at ≤ k
+  next_onward = omega (arith, B.passed.onward, scan_from in_content table x.from x.to B.part_is, scan_from in_line table x.to k E)
+
+  pub next_smaller : length table + 1 - (k + 1) < length table + 1 - at
+  next_smaller = omega (arith, next_inside, next_onward)
+
+module _ {host table : Bytes} {s : Sizes} {c start at : ℕ} (R : Round host table s c start at) {q : Option Span} (C : NextLine host table s.most c start at q) where
   pub round_ends : q ≡ None → Some (depths s c) ≡ depths_of (labels host) (read_table table)
   round_ends e = go C e
     where
-      go : {q : Option Candidate} → NextLine host table s.most c start at q → q ≡ None → Some (depths s c) ≡ depths_of (labels host) (read_table table)
+      go : {q : Option Span} → NextLine host table s.most c start at q → q ≡ None → Some (depths s c) ≡ depths_of (labels host) (read_table table)
       go (no_line h I) e = deeps_ends (shallow_deeps R.deeps (I.is R.lent)) R.lent.short h
       go (one_line B) e = let z : ◌≡◌ {A = ℕ} 0 1 = cc in absurd (omega arith)
 
-  module _ {x : Candidate} (f : q ≡ Some x) where
+  module _ {x : Span} (f : q ≡ Some x) where
     B : Behind host table s.most c start at x
     B = its_line C f
 
-    pub round_smaller : length table + 1 - x.next < length table + 1 - at
-    round_smaller = next_smaller B
+    module _ {k : ℕ} (E : k ≡ x.to + length (take_while in_line (drop x.to table))) where
+      pub round_fits : Fits w64 (k + 1)
+      round_fits = line_fits B E R.lent.short
 
-    there : Deeps host table s c x.part.from
+      pub round_smaller : {j : ℕ} → j ≡ k + 1 → length table + 1 - j < length table + 1 - at
+      round_smaller i = rw i (next_smaller B E)
+
+    there : Deeps host table s c x.from
     there = shallow_deeps R.deeps (B.passed.is R.lent)
 
-    module _ {w : Bytes} (e : w ≡ take (x.part.to - x.part.from) (drop x.part.from table)) {o : Option Depths} (t : o ≡ deepened c (depths_of (labels host) (read_line w))) where
-      its : o ≡ deepened c (depths_of (labels host) (read_line (take (x.part.to - x.part.from) (drop x.part.from table))))
+    module _ {w : Bytes} (e : w ≡ take (x.to - x.from) (drop x.from table)) {o : Option Depths} (t : o ≡ deepened c (depths_of (labels host) (read_line w))) where
+      its : o ≡ deepened c (depths_of (labels host) (read_line (take (x.to - x.from) (drop x.from table))))
       its = t ∙ ap (λ (v : Bytes). deepened c (depths_of (labels host) (read_line v))) e
 
       pub round_wrong : o ≡ None → None ≡ depths_of (labels host) (read_table table)
-      round_wrong n = deeps_bad there B.part_is {q = best_of (labels host) (read_line (take (x.part.to - x.part.from) (drop x.part.from table)))} refl (wrong_best (labels host) (read_line (take (x.part.to - x.part.from) (drop x.part.from table))) c (sym n ∙ its))
+      round_wrong n = deeps_bad there B.part_is {q = best_of (labels host) (read_line (take (x.to - x.from) (drop x.from table)))} refl (wrong_best (labels host) (read_line (take (x.to - x.from) (drop x.from table))) c (sym n ∙ its))
 
-      pub round_more : {f : Depths} {y : Sizes} {z r : ℕ} → o ≡ Some f → y ≡ joined s f.sizes → z ≡ max c f.depth → Stands (last_of (suc (max c f.depth)) (labels host)) host r → Round host table y z r x.next
-      round_more {f} {y} {z} n u v S =
-          let p = read_line (take (x.part.to - x.part.from) (drop x.part.from table)) in
-          let d : f.depth ≡ max c (line_depth (labels host) p) = found_depth (labels host) p c f (sym n ∙ its) in
-          let D = deeps_more there B.part_is {q = best_of (labels host) p} refl (found_best (labels host) p c f (sym n ∙ its)) B.ends_is u (twice c f.depth (line_depth (labels host) p) v d) refl in
-          record { lent = record { stands = rw v S; inside = next_inside B; short = R.lent.short }; deeps = rw (sym B.next_is) at D }
+      module _ {k : ℕ} (E : k ≡ x.to + length (take_while in_line (drop x.to table))) where
+        pub round_more : {f : Depths} {y : Sizes} {z r : ℕ} → o ≡ Some f → y ≡ joined s f.sizes → z ≡ max c f.depth → Stands (last_of (suc (max c f.depth)) (labels host)) host r → {j : ℕ} → j ≡ k + 1 → Round host table y z r j
+        round_more {f} {y} {z} n u v S i =
+            let p = read_line (take (x.to - x.from) (drop x.from table)) in
+            let d : f.depth ≡ max c (line_depth (labels host) p) = found_depth (labels host) p c f (sym n ∙ its) in
+            let D = deeps_more there B.part_is {q = best_of (labels host) p} refl (found_best (labels host) p c f (sym n ∙ its)) E u (twice c f.depth (line_depth (labels host) p) v d) refl in
+            record { lent = record { stands = rw v S; inside = rw i (next_inside B E); short = R.lent.short }; deeps = rw (sym i) at D }

@@ -28,9 +28,9 @@ use Rattle.suffix.proofs.PassedLines.{passed_none, passed_more, passed_on, passe
 use Rattle.suffix.proofs.Climbs.{table_short, table_read, last_whole, any_depth}
 use Rattle.suffix.proofs.IdleLines.{stands_whole}
 use Rattle.label_lookup.specs.code.Span.{Spans}
+use Rattle.ascii.specs.declared.Span.{Span}
 use Rattle.label_lookup.specs.code.Search.{Seeks, Sought, Found, all_passed, stops_at, Behind, NextLine, no_line, one_line}
-use Rattle.label_lookup.specs.declared.Candidate.{Candidate}
-use Rattle.label_lookup.proofs.RoundLaws.{its_line, next_inside, next_smaller}
+use Rattle.label_lookup.proofs.RoundLaws.{its_line, line_fits, next_inside, next_onward, next_smaller}
 use mir.Val.{Fits}
 use mir.Syntax.{w64}
 
@@ -91,54 +91,59 @@ module _ {label table : Bytes} {n from at : ℕ} (R : Seeking label table n from
       let a = any_depth n (labels label) rules R.lent.some (omega (arith, R.lent.labels_are)) in
       omega (arith, leb-false n (deepest (labels label) rules) (sym a ∙ ap (λ (ls : List Bytes). any (goes_deeper ls) rules) z ∙ e))
 
-  module _ {m : ℕ} {q : Option Candidate} (C : NextLine label table m (n - 1) 0 at q) where
+  module _ {m : ℕ} {q : Option Span} (C : NextLine label table m (n - 1) 0 at q) where
     pub seeking_ends : q ≡ None → Found label table (n - 1) from None
     seeking_ends e = go C e
       where
-        go : {q : Option Candidate} → NextLine label table m (n - 1) 0 at q → q ≡ None → Found label table (n - 1) from None
+        go : {q : Option Span} → NextLine label table m (n - 1) 0 at q → q ≡ None → Found label table (n - 1) from None
         go (no_line h I) e = all_passed h (passed_to I)
         go (one_line B) e = let z : ◌≡◌ {A = ℕ} 0 1 = cc in absurd (omega arith)
 
-    module _ {x : Candidate} (f : q ≡ Some x) where
+    module _ {x : Span} (f : q ≡ Some x) where
       B : Behind label table m (n - 1) 0 at x
       B = its_line C f
 
-      pub seeking_smaller : length table + 1 - x.next < length table + 1 - at
-      seeking_smaller = next_smaller B
+      module _ {k : ℕ} (E : k ≡ x.to + length (take_while in_line (drop x.to table))) where
+        pub seeking_fits : Fits w64 (k + 1)
+        seeking_fits = line_fits B E R.lent.short
 
-      there : Sought label table (n - 1) from x.part.from
+        pub seeking_smaller : {j : ℕ} → j ≡ k + 1 → length table + 1 - j < length table + 1 - at
+        seeking_smaller i = rw i (next_smaller B E)
+
+      there : Sought label table (n - 1) from x.from
       there = passed_to B.passed
 
-      pub seeking_found : {k : ℕ} → k ≡ x.part.from → Found label table (n - 1) from (Some k)
+      pub seeking_found : {k : ℕ} → k ≡ x.from → Found label table (n - 1) from (Some k)
       seeking_found e = rw e (stops_at B.inside there)
 
-      line_good : Good (take_while in_content (drop x.part.from table))
+      line_good : Good (take_while in_content (drop x.from table))
       line_good =
           let P = there.passed in
-          let k = x.part.from + length (take_while in_line (drop x.part.from table)) in
-          let a = (good_both P.lines (lines_from table x.part.from) (ap (λ (ls : List Bytes). is_none (read_lines ls)) (sym P.are) ∙ R.lent.good)).1 in
-          let c : lines_from table x.part.from ≡ (take_while in_line (drop x.part.from table) ∷ []) ++ lines_from table (k + 1) = lines_in table x.part.from (omega (arith, B.inside)) ∙ lines_cut table x.part.from k refl in
-          let b = (good_both (take_while in_line (drop x.part.from table) ∷ []) (lines_from table (k + 1)) (ap (λ (ls : List Bytes). is_none (read_lines ls)) (sym c) ∙ a)).0 in
-          record { is = ap is_none (sym (read_one (take_while in_line (drop x.part.from table)) ∙ ap read_line (content_is (drop x.part.from table)))) ∙ b }
+          let k = x.from + length (take_while in_line (drop x.from table)) in
+          let a = (good_both P.lines (lines_from table x.from) (ap (λ (ls : List Bytes). is_none (read_lines ls)) (sym P.are) ∙ R.lent.good)).1 in
+          let c : lines_from table x.from ≡ (take_while in_line (drop x.from table) ∷ []) ++ lines_from table (k + 1) = lines_in table x.from (omega (arith, B.inside)) ∙ lines_cut table x.from k refl in
+          let b = (good_both (take_while in_line (drop x.from table) ∷ []) (lines_from table (k + 1)) (ap (λ (ls : List Bytes). is_none (read_lines ls)) (sym c) ∙ a)).0 in
+          record { is = ap is_none (sym (read_one (take_while in_line (drop x.from table)) ∙ ap read_line (content_is (drop x.from table)))) ∙ b }
 
-      module _ {w : Bytes} (e : w ≡ take (x.part.to - x.part.from) (drop x.part.from table)) where
-        its_part : w ≡ take_while in_content (drop x.part.from table)
-        its_part = e ∙ scan_part in_content table x.part.from x.part.to B.part_is
+      module _ {w : Bytes} (e : w ≡ take (x.to - x.from) (drop x.from table)) where
+        its_part : w ≡ take_while in_content (drop x.from table)
+        its_part = e ∙ scan_part in_content table x.from x.to B.part_is
 
         -- what is read of the line
         pub seeking_good : Good w
         seeking_good = rw its_part line_good
 
-        pub seeking_more : {b : Bool} {k : ℕ} → b ≡ deeper_in (labels label) (read_line w) → b ≡ false → k ≡ x.next → Seeking label table n from k
-        seeking_more g h i =
-            let d = shallow_line (read_line (take_while in_content (drop x.part.from table))) (rw (← its_part) (sym g ∙ h)) in
-            let P = passed_line label table (n - 1) x.part.from B.ends (omega (arith, B.inside)) (next_line table x.part.from x.part.to B.ends B.part_is B.ends_is) line_good d in
-            rw i (record {
-              lent = R.lent;
-              sought = record { onward = omega (arith, R.sought.onward, next_smaller B); inside = next_inside B; passed = rw (sym B.next_is) at (passed_on there.passed P) };
-            })
+        module _ {k : ℕ} (E : k ≡ x.to + length (take_while in_line (drop x.to table))) where
+          pub seeking_more : {b : Bool} → b ≡ deeper_in (labels label) (read_line w) → b ≡ false → {j : ℕ} → j ≡ k + 1 → Seeking label table n from j
+          seeking_more g h i =
+              let d = shallow_line (read_line (take_while in_content (drop x.from table))) (rw (← its_part) (sym g ∙ h)) in
+              let P = passed_line label table (n - 1) x.from k (omega (arith, B.inside)) (next_line table x.from x.to k B.part_is E) line_good d in
+              rw i (record {
+                lent = R.lent;
+                sought = record { onward = omega (arith, R.sought.onward, next_onward B E); inside = next_inside B E; passed = passed_on there.passed P };
+              })
 
-pub ruleset seek_laws = (seeking_starts, seeking_short, seeking_smaller, seeking_good, rules)
+pub ruleset seek_laws = (seeking_starts, seeking_short, seeking_fits, seeking_smaller, seeking_good, rules)
 
 -- of the turns and the answers of `next_deeper` alone, so that a search that fails tries every way
 pub ruleset seek_turns = (seeking_found, seeking_more, seeking_ends)

@@ -21,12 +21,12 @@ fn next_deeper(kinds: &Kinds, count: usize, table: &[u8], from: usize) -> Option
     let mut at = from;
     while let Some(found) = next_candidate(kinds, count, count - 1, 0, table, at) {
         let line = Line {
-            bytes: found.part.of(table),
+            bytes: found.of(table),
         };
         if form_deeper(kinds.host, &line) {
-            return Some(found.part.from);
+            return Some(found.from);
         }
-        at = found.next;
+        at = skips::short_end(table, found.to) + 1;
     }
     None
 }

@@ -32,7 +32,7 @@ pub fn write_bytes(x: &[u8], out: &mut [u8], at: usize) -> usize
         return at;
     }
     let end = at + x.len();
-    out[at..end].copy_from_slice(x);
+    ascii::overwrite(&mut out[at..end], x);
     end
 }
 

@@ -34,12 +34,20 @@ plain_class : (table : Bytes) (b : ℕ) → Classifies table → b < 256 → ltb
 unfolding class_of is_letter is_upper is_digit is_alphanumeric
 plain_class table b C h = rw (C.is b h) (agree (λ k. ltb (class_of k) 2) is_alphanumeric tt b h)
 
-kind_at : (last : Option ℕ) (b c : ℕ) → b ≡ c → is_alphanumeric c ≡ false → kind_of last c ≡ kind_of last b
+pub kind_at : (last : Option ℕ) (b c : ℕ) → b ≡ c → is_alphanumeric c ≡ false → kind_of last c ≡ kind_of last b
 kind_at last b c e p = rw e
 
 pub kind_lf : (last : Option ℕ) (b : ℕ) → b ≡ 10 → 8 ≡ kind_of last b
 unfolding kind_of is_alphanumeric is_letter is_upper is_digit
 kind_lf last b e = kind_at last b 10 e refl
+
+pub hyphen_kind : (last : Option ℕ) (b : ℕ) → b ≡ 45 → 6 ≡ kind_of last b
+unfolding kind_of is_alphanumeric is_letter is_upper is_digit
+hyphen_kind last b e = kind_at last b 45 e refl
+
+pub dot_kind : (last : Option ℕ) (b : ℕ) → b ≡ 46 → 7 ≡ kind_of last b
+unfolding kind_of is_alphanumeric is_letter is_upper is_digit
+dot_kind last b e = kind_at last b 46 e refl
 
 module _ (table : Bytes) (last : Option ℕ) (b : ℕ) where
   -- what is so by every table

@@ -1,12 +1,12 @@
 -- The search for the next line of a good table that has a rule deeper than a label.
 use Rattle.std.specs.Prelude.{◌≡◌, false, ℕ, ◌+◌, ◌≤◌, ◌<◌, length, drop, Option, None, Some}
 use Rattle.ascii.specs.Ascii.{Bytes, is_none, take_while}
+use Rattle.ascii.specs.declared.Span.{Span}
 use Rattle.hosts.specs.Host.{labels}
 use Rattle.suffix.specs.Suffix.{read_lines}
-use Rattle.suffix.specs.code.Pass.{in_line, in_content}
+use Rattle.suffix.specs.code.Pass.{in_content}
 use Rattle.suffix.specs.code.Idle.{Shallows}
 use Rattle.suffix.specs.code.Passed.{lines_from, Passed}
-use Rattle.label_lookup.specs.declared.Candidate.{Candidate}
 
 -- what it is lent: how many labels the label has, and a line's start, from which on every line is good
 pub record Seeks (label table : Bytes) (count from : ℕ) : Type 0 where
@@ -27,16 +27,13 @@ pub data Found (label table : Bytes) (d from : ℕ) : Option ℕ → Type 0 wher
   all_passed : {to : ℕ} → length table ≤ to → Sought label table d from to → Found label table d from None
   stops_at : {to : ℕ} → to < length table → Sought label table d from to → Found label table d from (Some to)
 
--- a line behind those that the pass over a table goes on over: what is read of it, and the place behind it
-pub record Behind (host table : Bytes) (m d last from : ℕ) (c : Candidate) : Type 0 where
-  pub passed : Shallows host table m d last from c.part.from
-  pub inside : c.part.from < length table
-  pub part_is : c.part.to ≡ c.part.from + length (take_while in_content (drop c.part.from table))
-  pub ends : ℕ
-  pub ends_is : ends ≡ c.part.to + length (take_while in_line (drop c.part.to table))
-  pub next_is : c.next ≡ ends + 1
+-- what is read of a line behind those that the pass over a table goes on over
+pub record Behind (host table : Bytes) (m d last from : ℕ) (part : Span) : Type 0 where
+  pub passed : Shallows host table m d last from part.from
+  pub inside : part.from < length table
+  pub part_is : part.to ≡ part.from + length (take_while in_content (drop part.from table))
 
 -- none where there is no such line
-pub data NextLine (host table : Bytes) (m d last from : ℕ) : Option Candidate → Type 0 where
+pub data NextLine (host table : Bytes) (m d last from : ℕ) : Option Span → Type 0 where
   no_line : {at : ℕ} → length table ≤ at → Shallows host table m d last from at → NextLine host table m d last from None
-  one_line : {c : Candidate} → Behind host table m d last from c → NextLine host table m d last from (Some c)
+  one_line : {part : Span} → Behind host table m d last from part → NextLine host table m d last from (Some part)

@@ -10,6 +10,9 @@ invariant_of-line c = search seek_laws
 pub returns-then-form_deeper : goal.returns-then-form_deeper
 returns-then-form_deeper c = search seek_turns
 
+pub overflow_add-at : goal.overflow_add-at
+overflow_add-at c = search seek_laws
+
 pub loop-found-preserved : goal.loop-found-preserved
 loop-found-preserved c = search seek_turns
 
